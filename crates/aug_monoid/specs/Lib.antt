@@ -1,0 +1,4 @@
+pub mod Totals
+pub mod Exact
+pub mod NothingLaws
+pub mod PairLaws

@@ -1,0 +1,26 @@
+//! Keys, values and augmented values of ordered maps, with the laws that the maps rest on.
+#![tactic(auto)]
+
+mod augment;
+mod key;
+mod leaf;
+mod no_memory;
+mod nothing;
+mod pair;
+mod pair64;
+mod share;
+mod steps;
+mod sum_max;
+mod totals;
+
+pub use augment::{Augment, SyncAugment};
+pub use key::Key;
+pub use leaf::{Leaf, Seek, Walk};
+pub use no_memory::NoMemory;
+pub use nothing::Nothing;
+pub use pair::Pair;
+pub use pair64::Pair64;
+pub use share::Share;
+pub use steps::Steps;
+pub use sum_max::SumMax;
+pub use totals::Totals;
