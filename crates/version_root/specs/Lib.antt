@@ -1,0 +1,4 @@
+pub mod Seats
+pub mod Root
+pub mod Steps
+pub mod Answers
