@@ -13,8 +13,8 @@ use Rattle.version_root.specs.declared.view.Lead.{Lead}
 use Rattle.version_root.specs.declared.view.Role.{Role}
 use Rattle.version_root.specs.declared.view.Role.TheVariants.{Spent, Notice, Reader, Writer}
 use Rattle.versions.specs.History.{History}
-use Rattle.versions.specs.Prefix.{IsPrefix}
-use Rattle.version_root.specs.Root.{HasTurn, Knows, WriterFits, Fits, Ruled, notice_of, spent_view, informed, enlisting, enlisted, longer, seen_after, Listens, with_reader, readers_of}
+use Rattle.versions.specs.Prefix.{IsPrefix, longer}
+use Rattle.version_root.specs.Root.{HasTurn, Knows, WriterFits, Fits, Ruled, notice_of, spent_view, informed, enlisting, enlisted, seen_after, Listens, with_reader, readers_of}
 use Rattle.versions.proofs.Prefixes.{prefix_refl, longer_prefix, both_older}
 use Rattle.version_root.proofs.Keeps.{set_at, one_at, reviewed}
 

@@ -1,6 +1,6 @@
 -- The rule of a root's table.
 -- A stripe's word is 0 while its turn is free, 1 while the writer has it, and a reader's number, from 2 on, while that reader has it.
-use Rattle.std.specs.Prelude.{◌≡◌, ◌≢◌, ℕ, ◌+◌, ◌-◌, ◌%◌, ◌<◌, ◌≤◌, true, false, List, [], ◌∷◌, length, slice_index, Option, Some, None, All, nat_lt, if◌then◌else◌}
+use Rattle.std.specs.Prelude.{◌≡◌, ◌≢◌, ℕ, ◌+◌, ◌-◌, ◌%◌, ◌<◌, ◌≤◌, true, false, List, [], ◌∷◌, length, slice_index, Option, Some, None, All}
 use mathlib.Core.Option.{some}
 use lib.ListN.{get_elem?}
 use Rattle.atomic_table.specs.Table.{State}
@@ -11,7 +11,7 @@ use Rattle.version_root.specs.declared.view.Lead.{Lead}
 use Rattle.version_root.specs.declared.view.Role.{Role}
 use Rattle.version_root.specs.declared.view.Role.TheVariants.{Spent, Notice, Reader, Writer}
 use Rattle.versions.specs.History.{History, history}
-use Rattle.versions.specs.Prefix.{IsPrefix}
+use Rattle.versions.specs.Prefix.{IsPrefix, longer}
 
 -- the stripe of the reader with this number, of so many stripes
 abbrev pub own_stripe : ℕ → ℕ → ℕ
@@ -77,10 +77,6 @@ Listens Spent = ⊥
 Listens Notice = ⊥
 Listens (Reader tries) = tries.has_turn ≡ false
 Listens (Writer lead) = Unit {0}
-
--- the lists of two seats as one
-abbrev pub longer : {A : Type 0} → List A → List A → List A
-longer mine told = (if nat_lt (length mine) (length told) then told else mine)
 
 -- the writer knows all that it could be told
 abbrev pub seen_after : {A : Type 0} → Role → List A → List A → List A

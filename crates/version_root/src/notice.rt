@@ -1,10 +1,10 @@
 //! What one end of a root tells another.
-use versions::State;
 use crate::steps::{Place, Root};
 use std::marker::Model;
 use std::sync::Arc;
+use versions::State;
 
-/// Contracts see its root, the root's base, and the list that it tells of.
+/// A notice, seen as its root, the root's base, and the list that it tells of.
 #[derive(Drop)]
 pub struct Notice<S: State> {
     pub(crate) root: Arc<Root<S>>,

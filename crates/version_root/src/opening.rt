@@ -1,4 +1,4 @@
-//! The two ends of a new root.
+//! The ends of a new root.
 ghost use Rattle.std.specs.Prelude.{◌≡◌, ◌+◌, ◌<◌, ◌≤◌, [], Some, IfOk, All, vec_len};
 ghost use Rattle.std.specs.Arc.{arc_value};
 ghost use Rattle.versions.specs.History.{history};
@@ -6,9 +6,7 @@ ghost use Rattle.version_root.specs.Seats.{IsFirstWriter, IsOpen};
 ghost use Rattle.version_root.specs.Answers.{IsStart, fresh_reader};
 
 use crate::reader::Reader;
-use versions::State;
 use crate::steps::{Place, Root, enlist};
-use versions::Version;
 use crate::view::RootRule;
 use crate::writer::{Writer, copies_of};
 use atomic_table::{Refused, Table};
@@ -16,11 +14,13 @@ use aug_monoid::NoMemory;
 use std::alloc::Global;
 use std::snapshot::Snapshot;
 use std::sync::Arc;
+use versions::{State, Version};
 
 /// A root has no more stripes than this.
 const STRIPES: u32 = 8;
 
-/// A root whose version is the base with an empty journal, as seen by its writer and its readers.
+/// The writer and the readers of a new root, whose version has this base and an empty journal.
+/// It copies the base once for each of the `min(readers, 8)` stripes.
 pub fn start<S: State>(
     alloc: Global,
     base: S,
@@ -32,7 +32,7 @@ pub fn start<S: State>(
     let about = Snapshot::of(&base);
     let version = Version::first(base);
     let (root, mut seat) = open(alloc, &about, &version, readers.min(STRIPES) as usize)?;
-    let mut all = Vec::new(alloc);
+    let mut all = Vec::with_capacity(alloc, readers as usize)?;
     for made in 0..readers {
         all.push(new_reader(&root, &mut seat, made as u64)?)?;
     }

@@ -2,25 +2,27 @@
 ghost use Rattle.std.specs.Prelude.{◌≡◌, ◌≢◌, ◌+◌, ◌<◌, IfOk, IfErr};
 ghost use Rattle.std.specs.Arc.{arc_value};
 ghost use Rattle.versions.specs.History.{history};
-ghost use Rattle.versions.specs.Prefix.{IsPrefix};
-ghost use Rattle.version_root.specs.Root.{longer};
+ghost use Rattle.versions.specs.Prefix.{IsPrefix, longer};
 ghost use Rattle.version_root.specs.Seats.{Reading};
 
 use crate::notice::Notice;
-use versions::State;
 use crate::steps::{Place, Root, contend, copy_held, give_back, take_in, tell};
-use versions::Version;
 use aug_monoid::NoMemory;
 use std::alloc::Global;
 use std::marker::Model;
 use std::sync::{Arc, Wait};
 use std::thread;
+use thiserror::Error;
+use versions::{State, Version};
 
 /// Why a reader took no version.
-#[derive(Debug, Drop)]
+#[derive(Debug, Drop, Error)]
 pub enum Missed {
-    /// Another seat had the turn. This is its number.
+    /// The turn of the reader's stripe was taken, by the end with this number: 1 is the writer, and readers have 2 and more.
+    #[error("Busy")]
     Busy { found: u64 },
+    /// Memory for the version could not be had.
+    #[error("NoMemory")]
     NoMemory,
 }
 
@@ -35,6 +37,8 @@ impl From<NoMemory> for Missed {
     }
 }
 
+/// An end that takes the root's versions, seen as its root, the root's base, its number, what it has seen,
+/// how many turns it has lost, and the word that the last lost turn found.
 #[derive(Drop)]
 pub struct Reader<S: State> {
     pub(crate) root: Arc<Root<S>>,
@@ -57,13 +61,15 @@ impl<S: State> Model for Reader<S> {
 impl<S: State> Reader<S> {
     ghost use Rattle.version_root.specs.Answers.{Stays, Advances, Misses};
 
+    /// The reader's number, from 2 on.
     pub fn number(&self) -> u64
         ensures { result ≡ self.now.number }
     {
         self.number
     }
 
-    /// The version of one moment, which begins with all that was seen. It takes no turn that another seat has.
+    /// The newest version, whose journal begins with all that this reader has seen.
+    /// It tries the turn of its stripe once and never waits; `Busy` comes exactly where that one compare-exchange found it taken.
     pub fn try_snapshot(&mut self, alloc: Global) -> Result<Version<S>, Missed>
         ensures same { Stays self.old self.new }
         ensures ok { IfOk result (λ version. (version ≡ history self.new.base self.new.seen) × Advances self.old self.new) }
@@ -78,7 +84,7 @@ impl<S: State> Reader<S> {
         Ok(copy?)
     }
 
-    /// The same, once no other seat has the turn.
+    /// The newest version, as by `try_snapshot`, as soon as the turn is free. It may wait.
     pub fn snapshot<R: Wait>(&mut self, rt: &R, alloc: Global) -> Result<Version<S>, NoMemory>
         ensures same { Stays self.old self.new }
         ensures seen { IsPrefix self.old.seen self.new.seen }
@@ -94,7 +100,7 @@ impl<S: State> Reader<S> {
         unreachable!()
     }
 
-    /// A notice of what this reader has seen.
+    /// A notice of what this reader has seen, for another reader or the writer.
     pub fn note(&mut self) -> Result<Notice<S>, NoMemory>
         ensures same { self.new ≡ self.old }
         ensures notice { IfOk result (λ notice. notice ≡ record { root = self.old.root; base = self.old.base; seen = self.old.seen }) }
@@ -104,7 +110,7 @@ impl<S: State> Reader<S> {
         Ok(Notice { root, seat })
     }
 
-    /// From now on this reader sees no less than the notice tells of.
+    /// Takes in a notice: from now on this reader sees no less than it tells of. It takes no memory.
     pub fn learn(&mut self, notice: Notice<S>)
         requires { notice.root ≡ self.old.root }
         ensures same { Stays self.old self.new }

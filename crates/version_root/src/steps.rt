@@ -2,14 +2,12 @@
 ghost use Rattle.std.specs.Prelude.{◌≡◌, ◌≢◌, ◌+◌, ◌<◌, true, false, List, [], ◌∷◌, Option, Some, IfOk, All, vec_len};
 ghost use Rattle.versions.specs.History.{History, history};
 ghost use Rattle.versions.specs.declared.batch.Entry.{Entry};
-ghost use Rattle.versions.specs.Prefix.{IsPrefix};
-ghost use Rattle.version_root.specs.Root.{longer, enlisting, enlisted, notice_of, informed, spent_view};
+ghost use Rattle.versions.specs.Prefix.{IsPrefix, longer};
+ghost use Rattle.version_root.specs.Root.{enlisting, enlisted, notice_of, informed, spent_view};
 ghost use Rattle.version_root.specs.Seats.{IsReader, HasVersion, IsWriterSeat, IsTeller, IsNotice, laid, number_of, lost_of, found_of};
 ghost use Rattle.atomic_table.specs.Table.{rest};
 ghost use Rattle.version_root.specs.Steps.{tried, returned, looked, claimed, handed};
 
-use versions::State;
-use versions::Version;
 use crate::view::{RootRule, View};
 use atomic_table::{Join, Play, Seat, Shared, Split, Table};
 use aug_monoid::{NoMemory, Share};
@@ -17,6 +15,7 @@ use std::alloc::Global;
 use std::snapshot::Snapshot;
 use std::sync::Wait;
 use std::thread;
+use versions::{State, Version};
 
 pub type Stripes<S> = Shared<Option<Version<S>>, View<S, <S as State>::Op>, Snapshot<S>, RootRule>;
 

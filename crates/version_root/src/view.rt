@@ -1,10 +1,8 @@
 //! What the seats of a root know, for the proofs alone. No value of these types is made.
-use versions::Entry;
-use versions::State;
-use versions::Version;
 use atomic_table::TableRule;
 use std::collections::LinkedList;
 use std::snapshot::Snapshot;
+use versions::{Entry, State, Version};
 
 pub struct View<S, O> {
     pub role: Role,

@@ -1,19 +1,18 @@
 //! The end of a root that gives it versions.
-ghost use Rattle.std.specs.Prelude.{◌≡◌, IfOk, IfErr, All, Some, vec_len};
+ghost use Rattle.std.specs.Prelude.{◌≡◌, IfOk, OnOk, OnErr, All, Some, vec_len};
 ghost use Rattle.std.specs.Arc.{arc_value};
 ghost use Rattle.versions.specs.History.{history};
 ghost use Rattle.versions.specs.Prefix.{IsPrefix};
 
 use crate::notice::Notice;
-use versions::State;
 use crate::steps::{Place, Root, claim_all, hand_all, take_in_first, tell};
-use versions::Version;
 use aug_monoid::{NoMemory, Share};
 use std::alloc::Global;
 use std::marker::Model;
 use std::sync::{Arc, Wait};
+use versions::{State, Version};
 
-/// Contracts see its root, the root's base, and the journal.
+/// The one end that gives the root its versions, seen as its root, the root's base, and the journal.
 #[derive(Drop)]
 pub struct Writer<S: State> {
     pub(crate) root: Arc<Root<S>>,
@@ -40,7 +39,7 @@ pub(crate) fn copies_of<S: State>(
 ) -> Result<Vec<Option<Version<S>>>, NoMemory>
     ensures { IfOk result (λ copies. (vec_len copies ≡ count) × All (λ copy. copy ≡ Some version.now) copies.items) }
 {
-    let mut copies = Vec::new(alloc);
+    let mut copies = Vec::with_capacity(alloc, count)?;
     for _ in 0..count {
         copies.push(Some(version.share(alloc)?))?;
     }
@@ -48,14 +47,15 @@ pub(crate) fn copies_of<S: State>(
 }
 
 impl<S: State> Writer<S> {
-    /// The version of the writer's journal.
+    /// Lends the version of the writer's journal. It takes no memory.
     pub fn current(&self) -> &Version<S>
         ensures { result.now ≡ history self.now.base self.now.journal }
     {
         &self.current
     }
 
-    /// The version becomes that of the root. It takes every turn, so it may wait.
+    /// Makes the version that of the root, and its journal the writer's.
+    /// It makes a copy for every stripe before it takes a turn, so on a refusal the root is as before. It may wait for readers.
     pub fn publish<R: Wait>(
         &mut self,
         rt: &R,
@@ -64,8 +64,8 @@ impl<S: State> Writer<S> {
     ) -> Result<(), NoMemory>
         requires base { version.base ≡ self.old.base }
         requires grows { IsPrefix self.old.journal version.journal }
-        ensures ok { IfOk result (λ _. self.new ≡ record self.old { journal = version.journal }) }
-        ensures err { IfErr result (λ _. self.new ≡ self.old) }
+        ensures ok { OnOk result (self.new ≡ record self.old { journal = version.journal }) }
+        ensures err { OnErr result (self.new ≡ self.old) }
     {
         let count = self.root.slot_count();
         let copies = copies_of(alloc, &version, count)?;
@@ -75,7 +75,7 @@ impl<S: State> Writer<S> {
         Ok(())
     }
 
-    /// A notice of the journal.
+    /// A notice of the writer's journal, for a reader.
     pub fn tell(&mut self) -> Result<Notice<S>, NoMemory>
         ensures same { self.new ≡ self.old }
         ensures notice { IfOk result (λ notice. notice ≡ record { root = self.old.root; base = self.old.base; seen = self.old.journal }) }
@@ -85,8 +85,8 @@ impl<S: State> Writer<S> {
         Ok(Notice { root, seat })
     }
 
-    /// What the notice tells of is a beginning of the journal.
-    pub fn meet<R: Wait>(&mut self, _: &R, notice: Notice<S>)
+    /// Takes in a reader's notice: what it tells of is a beginning of the writer's journal. It takes no memory.
+    pub fn meet<R: Wait>(&mut self, _rt: &R, notice: Notice<S>)
         requires { notice.root ≡ self.old.root }
         ensures same { self.new ≡ self.old }
         ensures met { IsPrefix notice.seen self.new.journal }

@@ -9,5 +9,5 @@ mod tests;
 mod version;
 
 pub use batch::{Batch, Entry};
-pub use state::{State, SyncState};
+pub use state::{AtOnce, State, SyncState};
 pub use version::Version;

@@ -5,7 +5,7 @@ ghost use Rattle.versions.specs.History.{after};
 
 use crate::batch::Batch;
 use aug_monoid::{NoMemory, Share};
-use fork_join::{Cut, Divide, Gate, divide};
+use fork_join::{Cut, Divide, Gate, Opened, divide};
 use std::alloc::Global;
 use std::marker::{Send, Sync};
 use std::thread::Threads;
@@ -76,3 +76,29 @@ pub trait State: Share {
 pub trait SyncState: State<Op: Send + Sync> + Send + Sync {}
 
 impl<S: State<Op: Send + Sync> + Send + Sync> SyncState for S {}
+
+/// The work of a state that does not fork: `prepare` has done it, and the whole is what came of it.
+#[derive(Clone, Copy, Debug)]
+pub struct AtOnce;
+
+impl<O: Drop> Divide<O, (), O> for AtOnce {
+    ghost fits = { λ _ _. Unit {0} };
+
+    ghost answers = { λ _ part out. out ≡ part };
+
+    ghost divides = { λ _ _ _ _ _. ⊥ };
+
+    ghost extent = { λ _ _. 0 };
+
+    fn size(&self, _part: &O) -> u64 {
+        1
+    }
+
+    fn open(&self, _alloc: Global, part: O) -> Result<Opened<O, (), O>, NoMemory> {
+        Ok(Opened::Done(part))
+    }
+
+    fn close(&self, _alloc: Global, left: O, _middle: (), _right: O) -> Result<O, NoMemory> {
+        Ok(left)
+    }
+}

@@ -3,52 +3,24 @@ ghost use Rattle.std.specs.Prelude.{◌≡◌, fold};
 ghost use Rattle.versions.specs.History.{after};
 ghost use Rattle.versions.specs.Sums.{sum_up};
 
-use crate::{Batch, Entry, State, Version};
+use crate::{AtOnce, Batch, Entry, State, Version};
 use aug_monoid::{NoMemory, Share};
-use fork_join::{Cut, Divide, FreeGate, Opened};
+use fork_join::{Cut, FreeGate};
 use std::alloc::Global;
-use std::marker::{Send, Sync};
+use std::marker::Sync;
 use std::test::Fail;
 use std::thread::Threads;
-
-/// A total that is known before the work begins.
-#[derive(Clone, Copy, Debug)]
-struct Known {
-    total: u64,
-}
-
-impl Divide<(), (), u64> for Known {
-    ghost fits = { λ _ _. Unit {0} };
-
-    ghost answers = { λ work _ out. out ≡ work.total };
-
-    ghost divides = { λ _ _ _ _ _. ⊥ };
-
-    ghost extent = { λ _ _. 0 };
-
-    fn size(&self, _part: &()) -> u64 {
-        1
-    }
-
-    fn open(&self, _alloc: Global, _part: ()) -> Result<Opened<(), (), u64>, NoMemory> {
-        Ok(Opened::Done(self.total))
-    }
-
-    fn close(&self, _alloc: Global, left: u64, _middle: (), _right: u64) -> Result<u64, NoMemory> {
-        Ok(left)
-    }
-}
 
 impl State for u64 {
     type Op = u64;
 
-    type Part = ();
+    type Part = u64;
 
     type Middle = ();
 
     type Out = u64;
 
-    type Work = Known;
+    type Work = AtOnce;
 
     ghost step = { sum_up };
 
@@ -59,20 +31,15 @@ impl State for u64 {
         _rt: &R,
         _alloc: Global,
         batches: &[Batch<u64>],
-    ) -> Result<(Known, ()), NoMemory> {
+    ) -> Result<(AtOnce, u64), NoMemory> {
         let mut total = *self;
         for batch in batches {
             total = with_all(total, batch.ops());
         }
-        Ok((Known { total }, ()))
+        Ok((AtOnce, total))
     }
 
-    fn complete(
-        &self,
-        _alloc: Global,
-        _batches: &[Batch<u64>],
-        out: u64,
-    ) -> Result<u64, NoMemory> {
+    fn complete(&self, _alloc: Global, _batches: &[Batch<u64>], out: u64) -> Result<u64, NoMemory> {
         Ok(out)
     }
 }
@@ -104,6 +71,6 @@ fn an_earlier_version_stays(rt: HostRuntime) -> Result<(), Fail> {
     assert_eq!(rt; (copy.number(), *copy.state()), (1, 30));
     let entry = copy.journal().get(0).ok_or("one entry")?;
     assert_eq!(rt; (entry.caller, entry.tag), (3, 7));
-    assert_eq!(rt; entry.batch.ops(), [10, 20]);
+    assert_eq!(rt; entry.batch.ops(), [10, 20].as_slice());
     Ok(())
 }
