@@ -5,3 +5,4 @@ pub mod Claims
 pub mod Publishing
 pub mod Listening
 pub mod Starts
+pub mod Copies
