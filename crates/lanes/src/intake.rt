@@ -3,8 +3,8 @@ ghost use Rattle.std.specs.Prelude.{◌≡◌, ◌≤◌, List, ◌++◌, length
 
 use crate::moves::{pass_waiting, take_known};
 use crate::submitter::Submitter;
-use rtrb::Consumer;
 use aug_monoid::NoMemory;
+use rtrb::Consumer;
 use std::marker::Model;
 
 /// The receiving end, seen as its lane and the list of all items received.

@@ -2,8 +2,8 @@
 ghost use Rattle.std.specs.Prelude.{◌≡◌, ◌≤◌, ◌^◌, List, [], ◌∷◌, ◌++◌, length, OnOk, OnErr, IfOk, IfErr};
 
 use crate::intake::Intake;
-use rtrb::{Producer, PushError, RingBuffer};
 use aug_monoid::NoMemory;
+use rtrb::{Producer, PushError, RingBuffer};
 use std::alloc::{AllocFailed, Global};
 use std::collections::VecDeque;
 use std::marker::Model;
