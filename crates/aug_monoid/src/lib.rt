@@ -32,3 +32,6 @@ pub use steps::Steps;
 pub use sum_max::SumMax;
 pub use test::{AugTest, Test};
 pub use totals::Totals;
+
+#[cfg(test)]
+mod tests;
