@@ -5,6 +5,7 @@ use aug_monoid::{SatSum, Test};
 use std::test::Fail;
 
 const ODD: [(u64, u64); 3] = [(1, 10), (3, 30), (5, 50)];
+
 const LATER: [(u64, u64); 2] = [(3, 4), (4, 40)];
 
 #[derive(Drop)]
@@ -25,7 +26,10 @@ impl Test<u64, u64> for ValueAbove {
 #[test]
 fn a_union_adds_the_values_of_a_key_of_both(rt: HostRuntime) -> Result<(), Fail> {
     let both = union_of(rt.alloc(), &ODD, &LATER, &SatSum)?;
-    assert_eq!(rt; both.as_slice(), [(1, 10), (3, 34), (4, 40), (5, 50)].as_slice());
+    assert_eq!(rt;
+        both.as_slice(),
+        [(1, 10), (3, 34), (4, 40), (5, 50)].as_slice()
+    );
     Ok(())
 }
 

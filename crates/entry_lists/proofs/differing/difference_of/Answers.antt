@@ -1,4 +1,4 @@
-use Rattle.std.proofs.Common.{◌≡◌, [], ◌∷◌, ◌++◌, rules, ap, ◌∙◌}
+use Rattle.std.proofs.Common.{◌≡◌, [], ◌∷◌, ◌++◌, rules, ◌∙◌}
 use Rattle.std.specs.declared.cmp.Ordering.TheVariants.{Less, Equal, Greater}
 use Rattle.map_model.specs.SetOperations.{difference}
 use Rattle.entry_lists.proofs.MergeSteps.{none_left, difference_less, difference_equal, difference_greater, difference_left, difference_done}
