@@ -1,5 +1,5 @@
 -- How a node that is out of balance is turned.
-use Rattle.std.specs.Prelude.{◌≡◌, ℕ, ◌+◌, ◌*◌, ◌^◌, ◌<◌, ◌≤◌}
+use Rattle.std.specs.Prelude.{ℕ, ◌+◌, ◌*◌, ◌^◌, ◌<◌, ◌≤◌}
 use Rattle.map_model.specs.Balance.{IsBalanced}
 
 -- the weight of a tree
