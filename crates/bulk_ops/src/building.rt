@@ -23,8 +23,11 @@ const PIECE: usize = 1024;
 #[derive(Drop)]
 struct Planting;
 
-impl<'a, A: Augment, L: Leaf<A::Key, A::Val>, S: BlockSize>
-    Divide<&'a [(A::Key, A::Val)], Option<(A::Key, A::Val)>, TreeOver<A, L, S>> for Planting {
+impl<'a, A: Augment, L: Leaf<A::Key, A::Val>, S: BlockSize> Divide<
+    &'a [(A::Key, A::Val)],
+    Option<(A::Key, A::Val)>,
+    TreeOver<A, L, S>,
+> for Planting {
     ghost fits = { λ _. CanBePlanted A.Key.cmp S.SIZE };
 
     ghost answers = { λ _. IsAnswer slice_entries };
@@ -67,9 +70,7 @@ impl<'a, A: Augment, L: Leaf<A::Key, A::Val>, S: BlockSize>
 }
 
 /// The entries before the middle one, the middle one, and those after it.
-fn halves<'a, K: Key, V>(
-    entries: &'a [(K, V)],
-) -> Option<(&'a [(K, V)], &'a (K, V), &'a [(K, V)])>
+fn halves<'a, K: Key, V>(entries: &'a [(K, V)]) -> Option<(&'a [(K, V)], &'a (K, V), &'a [(K, V)])>
     requires { IsIncreasing K.cmp entries.now }
     ensures parts { IfSome result (λ h. entries.now ≡ h.0.now ++ h.1.now ∷ h.2.now) }
     ensures front_increases { IfSome result (λ h. IsIncreasing K.cmp h.0.now) }

@@ -49,11 +49,7 @@ impl<
         alloc: Global,
         part: (TreeOver<A, L, S>, TreeOver<A, L, S>),
     ) -> Result<
-        Opened<
-            (TreeOver<A, L, S>, TreeOver<A, L, S>),
-            Option<(A::Key, A::Val)>,
-            TreeOver<A, L, S>,
-        >,
+        Opened<(TreeOver<A, L, S>, TreeOver<A, L, S>), Option<(A::Key, A::Val)>, TreeOver<A, L, S>>,
         NoMemory,
     > {
         let (a, b) = part;
@@ -78,11 +74,7 @@ fn open_sides<A: Augment, L: Leaf<A::Key, A::Val>, S: BlockSize, W: Combination<
     a: TreeOver<A, L, S>,
     b: TreeOver<A, L, S>,
 ) -> Result<
-    Opened<
-        (TreeOver<A, L, S>, TreeOver<A, L, S>),
-        Option<(A::Key, A::Val)>,
-        TreeOver<A, L, S>,
-    >,
+    Opened<(TreeOver<A, L, S>, TreeOver<A, L, S>), Option<(A::Key, A::Val)>, TreeOver<A, L, S>>,
     NoMemory,
 >
     ensures { IfOk result (IsOpened (λ _. Unit {0}) (IsAnswer (combined_entries (W.combined how.now)) (a, b)) (IsPutTogether A.Key.cmp (combined_entries (W.combined how.now)) (a, b)) entry_count (entry_count (a, b))) }
@@ -106,12 +98,7 @@ fn open_sides<A: Augment, L: Leaf<A::Key, A::Val>, S: BlockSize, W: Combination<
 }
 
 /// Two trees combined as slices.
-fn combine_small<
-    A: Augment,
-    L: Leaf<A::Key, A::Val>,
-    S: BlockSize,
-    W: Combination<A::Key, A::Val>,
->(
+fn combine_small<A: Augment, L: Leaf<A::Key, A::Val>, S: BlockSize, W: Combination<A::Key, A::Val>>(
     alloc: Global,
     how: &W,
     a: &TreeOver<A, L, S>,
@@ -151,11 +138,7 @@ fn cut_first<A: Augment, L: Leaf<A::Key, A::Val>, S: BlockSize, W: Combination<A
     a: &TreeOver<A, L, S>,
     b: &TreeOver<A, L, S>,
 ) -> Result<
-    Opened<
-        (TreeOver<A, L, S>, TreeOver<A, L, S>),
-        Option<(A::Key, A::Val)>,
-        TreeOver<A, L, S>,
-    >,
+    Opened<(TreeOver<A, L, S>, TreeOver<A, L, S>), Option<(A::Key, A::Val)>, TreeOver<A, L, S>>,
     NoMemory,
 >
     requires first { IsIncreasing A.Key.cmp a.now.entries }
@@ -190,11 +173,7 @@ fn cut_second<A: Augment, L: Leaf<A::Key, A::Val>, S: BlockSize, W: Combination<
     a: &TreeOver<A, L, S>,
     b: &TreeOver<A, L, S>,
 ) -> Result<
-    Opened<
-        (TreeOver<A, L, S>, TreeOver<A, L, S>),
-        Option<(A::Key, A::Val)>,
-        TreeOver<A, L, S>,
-    >,
+    Opened<(TreeOver<A, L, S>, TreeOver<A, L, S>), Option<(A::Key, A::Val)>, TreeOver<A, L, S>>,
     NoMemory,
 >
     requires first { IsIncreasing A.Key.cmp a.now.entries }

@@ -42,8 +42,10 @@ impl<
         &self,
         alloc: Global,
         part: &'a TreeOver<A, L, S>,
-    ) -> Result<Opened<&'a TreeOver<A, L, S>, Option<(A::Key, A::Val)>, TreeOver<A, L, S>>, NoMemory>
-    {
+    ) -> Result<
+        Opened<&'a TreeOver<A, L, S>, Option<(A::Key, A::Val)>, TreeOver<A, L, S>>,
+        NoMemory,
+    > {
         match part.look() {
             LookOver::Node {
                 left,
