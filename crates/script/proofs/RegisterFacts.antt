@@ -1,5 +1,5 @@
 -- The commands that are read name registers from 0 to 15.
-use Rattle.std.proofs.Common.{◌≡◌, ◌+◌, ◌<◌, ◌==◌, ℕ, List, [], ◌∷◌, Option, Some, None, Result, Ok, Err, IfOk, inl, inr, length, nat_lt, codes}
+use Rattle.std.proofs.Common.{◌+◌, ◌<◌, ◌==◌, ℕ, List, [], ◌∷◌, Option, Some, None, Result, Ok, Err, IfOk, inl, inr, length, nat_lt, codes}
 use Rattle.std.specs.List.{AllByRecursion}
 use Rattle.std.proofs.lemmas.Bool.{cases_Bool, ltb-true}
 use Rattle.script.proofs.Chosen.{either_way}
@@ -10,7 +10,6 @@ use Rattle.script.specs.Numbers.{number_of}
 use Rattle.script.specs.Records.{Fields}
 use Rattle.script.specs.Registers.{HasRegisters}
 use Rattle.script.specs.Results.{◌>>=◌, at_place}
-use Rattle.script.specs.declared.fault.BadRecord.{BadRecord}
 use Rattle.script.specs.declared.fault.Code.{Code}
 use Rattle.script.specs.declared.fault.Code.TheVariants as code
 use Rattle.script.specs.declared.map.MapCommand.{MapCommand}

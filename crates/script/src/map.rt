@@ -13,11 +13,25 @@ use csv::ByteRecord;
 #[derive(Drop)]
 pub enum MapCommand {
     /// Sets the value at `k` in `d`.
-    Put { place: u64, d: u64, k: u64, v: u64 },
+    Put {
+        place: u64,
+        d: u64,
+        k: u64,
+        v: u64,
+    },
     /// Asks for the value at `k` in `m`.
-    Get { place: u64, m: u64, k: u64 },
+    Get {
+        place: u64,
+        m: u64,
+        k: u64,
+    },
     /// Asks for the sum and the greatest of the values at keys from `lo` to `hi` in `m`.
-    Sum { place: u64, m: u64, lo: u64, hi: u64 },
+    Sum {
+        place: u64,
+        m: u64,
+        lo: u64,
+        hi: u64,
+    },
 }
 
 impl Command for MapCommand {
