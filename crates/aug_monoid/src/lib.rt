@@ -4,23 +4,34 @@
 mod augment;
 mod key;
 mod leaf;
+mod max_right;
 mod no_memory;
 mod nothing;
 mod pair;
 mod pair64;
+mod reduce;
+mod resolve;
 mod share;
 mod steps;
 mod sum_max;
+mod test;
 mod totals;
 
 pub use augment::{Augment, SyncAugment};
 pub use key::Key;
 pub use leaf::{Leaf, Seek, Walk};
+pub use max_right::MaxRight;
 pub use no_memory::NoMemory;
 pub use nothing::Nothing;
 pub use pair::Pair;
 pub use pair64::Pair64;
+pub use reduce::{Project, Reduce, SyncReduce};
+pub use resolve::{First, Larger, Resolve, SatSum, Second};
 pub use share::Share;
 pub use steps::Steps;
 pub use sum_max::SumMax;
+pub use test::{AugTest, Test};
 pub use totals::Totals;
+
+#[cfg(test)]
+mod tests;
