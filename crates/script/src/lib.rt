@@ -10,6 +10,8 @@ mod map;
 mod numbers;
 mod parsed;
 mod records;
+#[cfg(test)]
+mod tests;
 
 pub use fault::{BadRecord, Code, ScriptFault};
 pub use items::Items;
