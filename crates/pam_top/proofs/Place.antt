@@ -1,8 +1,8 @@
 -- What a search finds among sorted entries, and what an edit at that place does.
-use Rattle.std.proofs.Common.{◌≡◌, ◌∙◌, ℕ, suc, ◌+◌, ◌<◌, ◌≤◌, List, length, get_or, set, Some, None, true, false, cond, is_some, inl, inr, nat_lt, ◌==◌, Result, Ok, Err, IfOk, IfErr, refl, sym, ap, subst, arith, drop, take, add-one}
+use Rattle.std.proofs.Common.{◌≡◌, ◌∙◌, ℕ, suc, ◌+◌, ◌<◌, ◌≤◌, List, length, get_or, set, Some, None, true, false, is_some, inl, inr, nat_lt, ◌==◌, Result, Ok, Err, IfOk, IfErr, refl, sym, ap, arith, drop, take, add-one}
 use Rattle.std.specs.List.{insert}
 use Rattle.std.specs.List.Sorted.{IsSearchInRange, IsBinarySearchResult, IsNonDecreasingBy}
-use Rattle.std.specs.Ordering.{nat_cmp, ordering_index, is_eq, is_lt}
+use Rattle.std.specs.Ordering.{nat_cmp, ordering_index}
 use Rattle.std.specs.Cmp.{nat_cmp_total}
 use Rattle.std.proofs.lemmas.Bool.{cases_Bool, le-ltb, ltb-true, ltb-false}
 use Rattle.std.proofs.lemmas.Cmp.{ranked}
@@ -12,10 +12,8 @@ use Rattle.std.proofs.lemmas.List.Sorted.{IsNonDecreasingBy-from_default}
 use Rattle.std.proofs.lemmas.Bool.Decides.{nat_tests}
 use Rattle.map_model.specs.Entries.{IsIncreasing, above, below, lookup}
 use Rattle.map_model.specs.Entries as model
-use Rattle.map_model.specs.Parts.{rank}
 use Rattle.map_model.proofs.NatKeys.{is_lt-nat_cmp, is_eq-nat_cmp, key_lt, less-nat_cmp}
 use Rattle.map_model.proofs.Places.{IsPlaceOf, above-drop, below-at_place, lookup-place, rank-at_place}
-use Rattle.map_model.proofs.Splits.{IsIncreasing-set}
 use Rattle.pam_top.specs.Places.{IsAt, IsGapFor, key_at}
 
 eq-same : (a b : ℕ) → a ≡ b → (a == b) ≡ true

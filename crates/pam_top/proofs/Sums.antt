@@ -1,5 +1,5 @@
 -- The totals of a range, entry by entry.
-use Rattle.std.proofs.Common.{◌≡◌, ◌∙◌, ◌+◌, ◌-◌, ◌^◌, ◌<◌, ◌≤◌, ◌∷◌, ◌++◌, [], List, ℕ, true, false, cond, inl, inr, length, get_or, take, min, max, refl, sym, ap, ap₂, arith, ◌&&◌, nat_le}
+use Rattle.std.proofs.Common.{◌≡◌, ◌∙◌, ◌+◌, ◌<◌, ◌≤◌, ◌∷◌, ◌++◌, [], List, ℕ, true, false, cond, inl, inr, length, get_or, take, refl, sym, ap, ap₂, ◌&&◌, nat_le}
 use Rattle.std.specs.Ordering.{nat_cmp}
 use Rattle.std.proofs.lemmas.Bool.{cases_Bool}
 use Rattle.std.proofs.lemmas.List.{append-nil, take_all, take_more}

@@ -1,5 +1,5 @@
 -- Lawful words, and what they ask for.
-use Rattle.std.specs.Prelude.{◌≤◌, ◌&&◌, [], ◌∷◌, ℕ, Bool, List, Option, Some, None, codes, nat_le, if◌then◌else◌}
+use Rattle.std.specs.Prelude.{◌≤◌, ◌&&◌, ◌∷◌, ℕ, List, Option, Some, None, codes, nat_le, if◌then◌else◌}
 use Rattle.std.specs.Str.{bytes_eq}
 use Rattle.clap.specs.Words.{Row, Text, first_of}
 use Rattle.script.specs.Numbers.{number_of}

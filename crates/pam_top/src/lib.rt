@@ -8,8 +8,8 @@ mod reading;
 mod running;
 mod settings;
 mod status;
-
-
+#[cfg(test)]
+mod tests;
 mod top;
 mod words_fault;
 mod writing;

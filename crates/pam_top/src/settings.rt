@@ -5,8 +5,8 @@ ghost use Rattle.clap.specs.Words.{first_of, found_of, rows_of};
 ghost use Rattle.pam_top.specs.Settings.{IsInRange, between, settings_from, settings_of, tool_named, value_in};
 ghost use Rattle.pam_top.specs.declared.words_fault.WordsFault.TheVariants as fault;
 
-use crate::words_fault::WordsFault;
 use crate::command_line::{matches, with_name};
+use crate::words_fault::WordsFault;
 use clap::ArgMatches;
 use script::{Tool, number};
 use std::alloc::Global;

@@ -32,6 +32,9 @@ fn numbers_and_lines(rt: HostRuntime) -> Result<(), Fail> {
         code: Code::Number,
     };
     error_line(&mut out, &bad)?;
-    assert_eq!(rt; out.as_slice(), b"aug,0,18446744073709551615\nnone\nerror,7,number\n".as_slice());
+    assert_eq!(rt;
+        out.as_slice(),
+        b"aug,0,18446744073709551615\nnone\nerror,7,number\n".as_slice()
+    );
     Ok(())
 }
