@@ -86,7 +86,7 @@ impl<O: Drop> Divide<O, (), O> for AtOnce {
 
     ghost answers = { λ _ part out. out ≡ part };
 
-    ghost divides = { λ _ _ _ _ _. ⊥ };
+    ghost divides = { λ _ part front _ _. part ≡ front };
 
     ghost extent = { λ _ _. 0 };
 
