@@ -1,0 +1,43 @@
+//! The recursion.
+ghost use Rattle.std.specs.Prelude.{IfOk};
+ghost use Rattle.std.specs.Thread.{IsSend, IsSync};
+
+use crate::cut::Cut;
+use crate::fork::fork2;
+use crate::gate::Gate;
+use crate::work::{Divide, Opened};
+use aug_monoid::NoMemory;
+use std::alloc::Global;
+use std::thread::Threads;
+
+/// The answer for a part, by halves of halves, forked where the cut allows it.
+/// The answer depends on neither the runtime nor the gate nor the cut.
+#[cycle(divide)]
+pub fn divide<
+    R: Threads + Sync,
+    G: Gate,
+    P: Send + Drop,
+    M: Send + Drop,
+    O: Send + Drop,
+    D: Divide<P, M, O>,
+>(rt: &R, alloc: Global, gate: &G, cut: Cut, work: &D, part: P) -> Result<O, NoMemory>
+    requires { D.fits work.now part }
+    ensures { IfOk result (D.answers work.now part) }
+{
+    let size = work.size(&part);
+    match work.open(alloc, part)? {
+        Opened::Done(out) => Ok(out),
+        Opened::Split(front, middle, back) => {
+            let near = move |cut: Cut| -> Result<O, NoMemory>
+                requires { IsSync R.row × IsSync G.row × IsSync D.row × IsSend P.row × IsSend M.row × IsSend O.row × D.fits work.now front }
+                ensures { IfOk result (D.answers work.entry.now front) }
+            { divide(rt, alloc, gate, cut, work, front) };
+            let far = move |cut: Cut| -> Result<O, NoMemory>
+                requires { IsSync R.row × IsSync G.row × IsSync D.row × IsSend P.row × IsSend M.row × IsSend O.row × D.fits work.now back }
+                ensures { IfOk result (D.answers work.entry.now back) }
+            { divide(rt, alloc, gate, cut, work, back) };
+            let (left, right) = fork2(rt, gate, cut, size, near, far);
+            work.close(alloc, left?, middle, right?)
+        }
+    }
+}
