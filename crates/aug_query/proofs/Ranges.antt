@@ -1,5 +1,5 @@
 -- The entries in a range of keys, around an entry.
-use Rattle.std.proofs.Common.{◌≡◌, ℕ, ◌+◌, ◌*◌, ◌≤◌, Bool, true, false, cond, ◌&&◌, List, [], ◌∷◌, ◌++◌, refl, sym, ap, ap₂, ◌∙◌, arith}
+use Rattle.std.proofs.Common.{◌≡◌, Bool, true, false, cond, ◌&&◌, List, [], ◌∷◌, ◌++◌, refl, sym, ap, ap₂, ◌∙◌}
 use Rattle.std.specs.declared.cmp.Ordering.{Ordering}
 use Rattle.std.specs.declared.cmp.Ordering.TheVariants.{Less, Equal, Greater}
 use Rattle.std.specs.Ordering.{is_lt, is_gt, is_le, is_ge, ordering_reverse}
@@ -13,7 +13,7 @@ use Rattle.map_model.proofs.Keys.{AllKeys-map, AllKeys-all, around}
 use Rattle.map_model.proofs.Filters.{filter-all_keys, filter-no_keys, filter-same_keys}
 use Rattle.aug_query.specs.declared.range.KeyRange.{KeyRange}
 use Rattle.aug_query.specs.declared.range.KeyRange.TheVariants.{All, AtMost, AtLeast, Between, Below, Above}
-use Rattle.aug_query.specs.Within.{in_range, ends_before, begins_after, within, is_all, left_part, right_part, fold_cost}
+use Rattle.aug_query.specs.Within.{in_range, ends_before, begins_after, within, is_all, left_part, right_part}
 
 -- ---- tests of an ordering, and of the reversed one
 
@@ -132,8 +132,17 @@ module _ {K : Type 0} {order : K → K → Ordering} (total : IsTotalOrder order
 -- ---- lists
 
 module _ {K V : Type 0} (order : K → K → Ordering) where
-  pub within-all : (m : List (K × V)) → within order All m ≡ m
+  within-all : (m : List (K × V)) → within order All m ≡ m
   within-all m = filter-all_keys (λ _. true) m (AllKeys-all (λ _. true ≡ true) (λ _. refl) m)
+
+  -- the range has all keys
+  pub within-whole : (range : KeyRange K) (m : List (K × V)) → is_all range ≡ true → within order range m ≡ m
+  within-whole All m whole = within-all m
+  within-whole (AtMost hi) m whole = absurd (false≢true whole)
+  within-whole (AtLeast lo) m whole = absurd (false≢true whole)
+  within-whole (Between lo hi) m whole = absurd (false≢true whole)
+  within-whole (Below hi) m whole = absurd (false≢true whole)
+  within-whole (Above lo) m whole = absurd (false≢true whole)
 
   pub within-append : (range : KeyRange K) (l r : List (K × V)) → within order range (l ++ r) ≡ within order range l ++ within order range r
   within-append range l r = filter-append (λ e. in_range order range e.0) l r
@@ -173,33 +182,3 @@ module _ {K V : Type 0} {order : K → K → Ordering} (total : IsTotalOrder ord
   -- an entry before the begin of the range
   pub within-early : begins_after order range key ≡ true → within order range ((key, val) ∷ []) ≡ []
   within-early early = ap (λ b. cond b ((key, val) ∷ []) []) (before_begin total range key key early itself)
-
--- ---- steps
-
-module _ {K : Type 0} where
-  -- a fold that goes on in one side of a node
-  pub cost_beside : (range : KeyRange K) (block side height : ℕ) → is_all range ≡ false → side + 1 ≤ height → 2 + fold_cost range side block ≤ fold_cost range height block
-  cost_beside All block side height part up = absurd (true≢false part)
-  cost_beside (AtMost hi) block side height part up = omega arith
-  cost_beside (AtLeast lo) block side height part up = omega arith
-  cost_beside (Between lo hi) block side height part up = omega arith
-  cost_beside (Below hi) block side height part up = omega arith
-  cost_beside (Above lo) block side height part up = omega arith
-
-  -- a fold that goes on in both sides of a node
-  pub cost_inside : (range : KeyRange K) (block left right height : ℕ) → is_all range ≡ false → left + 1 ≤ height → right + 1 ≤ height → 4 + fold_cost (left_part range) left block + fold_cost (right_part range) right block ≤ fold_cost range height block
-  cost_inside All block left right height part up_left up_right = absurd (true≢false part)
-  cost_inside (AtMost hi) block left right height part up_left up_right = omega arith
-  cost_inside (AtLeast lo) block left right height part up_left up_right = omega arith
-  cost_inside (Between lo hi) block left right height part up_left up_right = omega arith
-  cost_inside (Below hi) block left right height part up_left up_right = omega arith
-  cost_inside (Above lo) block left right height part up_left up_right = omega arith
-
-  -- a fold of a block
-  pub cost_block : (range : KeyRange K) (block height n : ℕ) → is_all range ≡ false → n ≤ 2 * block → 3 * n ≤ fold_cost range height block
-  cost_block All block height n part short = absurd (true≢false part)
-  cost_block (AtMost hi) block height n part short = omega arith
-  cost_block (AtLeast lo) block height n part short = omega arith
-  cost_block (Between lo hi) block height n part short = omega arith
-  cost_block (Below hi) block height n part short = omega arith
-  cost_block (Above lo) block height n part short = omega arith

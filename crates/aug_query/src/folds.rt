@@ -5,7 +5,7 @@ ghost use Rattle.map_model.specs.Fold.{fold_of, range_fold};
 ghost use Rattle.map_model.specs.Parts.{left_of, right_of};
 ghost use Rattle.aug_query.specs.Within.{within, fold_cost};
 
-use crate::range::KeyRange;
+use crate::range::{KeyRange, Span};
 use aug_monoid::{Augment, Leaf, NoMemory, Share, Steps};
 use std::alloc::Global;
 use std::sync::ledger::Ledger;
@@ -23,7 +23,8 @@ pub fn aug_left<A: Augment, L: Leaf<A::Key, A::Val>, S: BlockSize, C: Ledger>(
     ensures succeeds { A.never_refuses → IsOk result }
     ensures cost { steps.new ≤ steps.old + (8 * tree.now.height + 16 * S.SIZE) }
 {
-    fold_within(alloc, tree, KeyRange::AtMost { hi: key }, steps)
+    let range = KeyRange::AtMost { hi: key };
+    fold_span(alloc, Span { tree, range }, steps)
 }
 
 /// The fold of the entries with keys at least `key`, from the stored folds beside one path and at most one block. It takes no
@@ -38,7 +39,8 @@ pub fn aug_right<A: Augment, L: Leaf<A::Key, A::Val>, S: BlockSize, C: Ledger>(
     ensures succeeds { A.never_refuses → IsOk result }
     ensures cost { steps.new ≤ steps.old + (8 * tree.now.height + 16 * S.SIZE) }
 {
-    fold_within(alloc, tree, KeyRange::AtLeast { lo: key }, steps)
+    let range = KeyRange::AtLeast { lo: key };
+    fold_span(alloc, Span { tree, range }, steps)
 }
 
 /// The fold of the entries with keys from `lo` to `hi`, both included, from the stored folds between two paths and at most two
@@ -54,7 +56,8 @@ pub fn aug_range<A: Augment, L: Leaf<A::Key, A::Val>, S: BlockSize, C: Ledger>(
     ensures succeeds { A.never_refuses → IsOk result }
     ensures cost { steps.new ≤ steps.old + (8 * tree.now.height + 16 * S.SIZE) }
 {
-    fold_within(alloc, tree, KeyRange::Between { lo, hi }, steps)
+    let range = KeyRange::Between { lo, hi };
+    fold_span(alloc, Span { tree, range }, steps)
 }
 
 /// The stored fold of all entries.
@@ -102,16 +105,16 @@ fn fold_block<A: Augment, L: Leaf<A::Key, A::Val>, C: Ledger>(
 }
 
 /// The fold of the entries in a range.
-fn fold_within<A: Augment, L: Leaf<A::Key, A::Val>, S: BlockSize, C: Ledger>(
+fn fold_span<A: Augment, L: Leaf<A::Key, A::Val>, S: BlockSize, C: Ledger>(
     alloc: Global,
-    tree: &TreeOver<A, L, S>,
-    range: KeyRange<'_, A::Key>,
+    span: Span<'_, A, L, S>,
     steps: &mut Steps<C>,
 ) -> Result<A::Aug, NoMemory>
-    ensures value { IfOk result (λ aug. aug ≡ fold_of A.base_of A.unit_of A.combined (within A.Key.cmp range.entry tree.now.entries)) }
+    ensures value { IfOk result (λ aug. aug ≡ fold_of A.base_of A.unit_of A.combined (within A.Key.cmp span.entry.range span.entry.tree.now.entries)) }
     ensures succeeds { A.never_refuses → IsOk result }
-    ensures cost { steps.new ≤ steps.old + fold_cost range.entry tree.now.height S.SIZE }
+    ensures cost { steps.new ≤ steps.old + fold_cost span.entry.range span.entry.tree.now.height S.SIZE }
 {
+    let Span { tree, range } = span;
     if range.is_all() {
         return whole_fold(alloc, tree);
     }
@@ -125,16 +128,24 @@ fn fold_within<A: Augment, L: Leaf<A::Key, A::Val>, S: BlockSize, C: Ledger>(
             right,
         } => {
             if range.ends_before(key, steps) {
-                return fold_within(alloc, left, range, steps);
+                return fold_span(alloc, Span { tree: left, range }, steps);
             }
             if range.begins_after(key, steps) {
-                return fold_within(alloc, right, range, steps);
+                return fold_span(alloc, Span { tree: right, range }, steps);
             }
-            let low = fold_within(alloc, left, range.left_part(), steps)?;
+            let low = Span {
+                tree: left,
+                range: range.left_part(),
+            };
+            let high = Span {
+                tree: right,
+                range: range.right_part(),
+            };
+            let before = fold_span(alloc, low, steps)?;
             let middle = A::base(key, val, alloc)?;
-            let front = A::combine(&low, &middle, alloc, steps)?;
-            let back = fold_within(alloc, right, range.right_part(), steps)?;
-            A::combine(&front, &back, alloc, steps)
+            let front = A::combine(&before, &middle, alloc, steps)?;
+            let after = fold_span(alloc, high, steps)?;
+            A::combine(&front, &after, alloc, steps)
         }
     }
 }

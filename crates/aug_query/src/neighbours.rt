@@ -5,6 +5,7 @@ ghost use Rattle.map_model.specs.Entries.{IsIncreasing};
 ghost use Rattle.map_model.specs.Parts.{next, prev};
 
 use crate::places::{select, share_entry};
+use crate::range::Part;
 use aug_monoid::{Augment, Key, Leaf, NoMemory, Share, Steps};
 use std::alloc::Global;
 use std::cmp::Ordering;
@@ -22,7 +23,19 @@ pub fn next<A: Augment, L: Leaf<A::Key, A::Val>, S: BlockSize, C: Ledger>(
     ensures value { IfOk result (λ entry. entry ≡ next A.Key.cmp tree.now.entries key.now) }
     ensures succeeds { A.Key.never_refuses → A.Val.never_refuses → IsOk result }
 {
-    match tree.look() {
+    next_in(alloc, Part { tree }, key, steps)
+}
+
+fn next_in<A: Augment, L: Leaf<A::Key, A::Val>, S: BlockSize, C: Ledger>(
+    alloc: Global,
+    part: Part<'_, A, L, S>,
+    key: &A::Key,
+    steps: &mut Steps<C>,
+) -> Result<Option<(A::Key, A::Val)>, NoMemory>
+    ensures value { IfOk result (λ entry. entry ≡ next A.Key.cmp part.entry.tree.now.entries key.now) }
+    ensures succeeds { A.Key.never_refuses → A.Val.never_refuses → IsOk result }
+{
+    match part.tree.look() {
         LookOver::Empty => Ok(None),
         LookOver::Block { leaf } => next_in_block(alloc, leaf, key, steps),
         LookOver::Node {
@@ -31,12 +44,12 @@ pub fn next<A: Augment, L: Leaf<A::Key, A::Val>, S: BlockSize, C: Ledger>(
             val,
             right,
         } => match key.order(middle, steps) {
-            Ordering::Less => match next(alloc, left, key, steps)? {
+            Ordering::Less => match next_in(alloc, Part { tree: left }, key, steps)? {
                 Some(entry) => Ok(Some(entry)),
                 None => Ok(Some(share_entry(alloc, middle, val)?)),
             },
             Ordering::Equal => select(alloc, right, 0),
-            Ordering::Greater => next(alloc, right, key, steps),
+            Ordering::Greater => next_in(alloc, Part { tree: right }, key, steps),
         },
     }
 }
@@ -52,7 +65,19 @@ pub fn prev<A: Augment, L: Leaf<A::Key, A::Val>, S: BlockSize, C: Ledger>(
     ensures value { IfOk result (λ entry. entry ≡ prev A.Key.cmp tree.now.entries key.now) }
     ensures succeeds { A.Key.never_refuses → A.Val.never_refuses → IsOk result }
 {
-    match tree.look() {
+    prev_in(alloc, Part { tree }, key, steps)
+}
+
+fn prev_in<A: Augment, L: Leaf<A::Key, A::Val>, S: BlockSize, C: Ledger>(
+    alloc: Global,
+    part: Part<'_, A, L, S>,
+    key: &A::Key,
+    steps: &mut Steps<C>,
+) -> Result<Option<(A::Key, A::Val)>, NoMemory>
+    ensures value { IfOk result (λ entry. entry ≡ prev A.Key.cmp part.entry.tree.now.entries key.now) }
+    ensures succeeds { A.Key.never_refuses → A.Val.never_refuses → IsOk result }
+{
+    match part.tree.look() {
         LookOver::Empty => Ok(None),
         LookOver::Block { leaf } => prev_in_block(alloc, leaf, key, steps),
         LookOver::Node {
@@ -61,9 +86,9 @@ pub fn prev<A: Augment, L: Leaf<A::Key, A::Val>, S: BlockSize, C: Ledger>(
             val,
             right,
         } => match key.order(middle, steps) {
-            Ordering::Less => prev(alloc, left, key, steps),
+            Ordering::Less => prev_in(alloc, Part { tree: left }, key, steps),
             Ordering::Equal => last(alloc, left),
-            Ordering::Greater => match prev(alloc, right, key, steps)? {
+            Ordering::Greater => match prev_in(alloc, Part { tree: right }, key, steps)? {
                 Some(entry) => Ok(Some(entry)),
                 None => Ok(Some(share_entry(alloc, middle, val)?)),
             },

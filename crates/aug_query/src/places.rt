@@ -2,6 +2,7 @@
 ghost use Rattle.std.specs.Prelude.{◌≡◌, ◌+◌, ◌≤◌, ◌<◌, IfOk, IsOk};
 ghost use Rattle.map_model.specs.Parts.{rank, select};
 
+use crate::range::Part;
 use aug_monoid::{Augment, Key, Leaf, NoMemory, Share, Steps};
 use std::alloc::Global;
 use std::cmp::Ordering;
@@ -16,7 +17,17 @@ pub fn rank<A: Augment, L: Leaf<A::Key, A::Val>, S: BlockSize, C: Ledger>(
 ) -> u64
     ensures { result ≡ rank A.Key.cmp tree.now.entries key.now }
 {
-    match tree.look() {
+    rank_in(Part { tree }, key, steps)
+}
+
+fn rank_in<A: Augment, L: Leaf<A::Key, A::Val>, S: BlockSize, C: Ledger>(
+    part: Part<'_, A, L, S>,
+    key: &A::Key,
+    steps: &mut Steps<C>,
+) -> u64
+    ensures { result ≡ rank A.Key.cmp part.entry.tree.now.entries key.now }
+{
+    match part.tree.look() {
         LookOver::Empty => 0,
         LookOver::Block { leaf } => leaf.seek(key, steps).at,
         LookOver::Node {
@@ -25,9 +36,12 @@ pub fn rank<A: Augment, L: Leaf<A::Key, A::Val>, S: BlockSize, C: Ledger>(
             right,
             ..
         } => match key.order(middle, steps) {
-            Ordering::Less => rank(left, key, steps),
+            Ordering::Less => rank_in(Part { tree: left }, key, steps),
             Ordering::Equal => left.size(),
-            Ordering::Greater => tree.size() - right.size() + rank(right, key, steps),
+            Ordering::Greater => {
+                let behind = part.tree.size() - right.size();
+                behind + rank_in(Part { tree: right }, key, steps)
+            }
         },
     }
 }

@@ -4,7 +4,7 @@ ghost use Rattle.map_model.specs.Entries.{IsIncreasing};
 ghost use Rattle.map_model.specs.Fold.{fold_of, project};
 ghost use Rattle.aug_query.specs.Within.{within};
 
-use crate::range::KeyRange;
+use crate::range::{KeyRange, Span};
 use aug_monoid::{Augment, Leaf, NoMemory, Project, Steps};
 use std::alloc::Global;
 use std::marker::Brand;
@@ -40,7 +40,8 @@ fn project_range<A: Augment, L: Leaf<A::Key, A::Val>, S: BlockSize, P: Project<A
     ensures value { IfOk result (λ out. out ≡ project A.Key.cmp A.base_of A.unit_of A.combined (P.image_of how.now) tree.now.entries lo.now hi.now) }
 {
     let mut steps = Steps::<C>::start(blank);
-    project_within(alloc, tree, KeyRange::Between { lo, hi }, how, &mut steps)
+    let range = KeyRange::Between { lo, hi };
+    project_span(alloc, Span { tree, range }, how, &mut steps)
 }
 
 /// The image of the stored fold of all entries.
@@ -100,15 +101,15 @@ fn project_block<A: Augment, L: Leaf<A::Key, A::Val>, P: Project<A>, C: Ledger>(
 }
 
 /// The image for the entries in a range.
-fn project_within<A: Augment, L: Leaf<A::Key, A::Val>, S: BlockSize, P: Project<A>, C: Ledger>(
+fn project_span<A: Augment, L: Leaf<A::Key, A::Val>, S: BlockSize, P: Project<A>, C: Ledger>(
     alloc: Global,
-    tree: &TreeOver<A, L, S>,
-    range: KeyRange<'_, A::Key>,
+    span: Span<'_, A, L, S>,
     how: &P,
     steps: &mut Steps<C>,
 ) -> Result<P::Out, NoMemory>
-    ensures value { IfOk result (λ out. out ≡ P.image_of how.now (fold_of A.base_of A.unit_of A.combined (within A.Key.cmp range.entry tree.now.entries))) }
+    ensures value { IfOk result (λ out. out ≡ P.image_of how.now (fold_of A.base_of A.unit_of A.combined (within A.Key.cmp span.entry.range span.entry.tree.now.entries))) }
 {
+    let Span { tree, range } = span;
     if range.is_all() {
         return project_whole(alloc, tree, how);
     }
@@ -122,14 +123,22 @@ fn project_within<A: Augment, L: Leaf<A::Key, A::Val>, S: BlockSize, P: Project<
             right,
         } => {
             if range.ends_before(key, steps) {
-                return project_within(alloc, left, range, how, steps);
+                return project_span(alloc, Span { tree: left, range }, how, steps);
             }
             if range.begins_after(key, steps) {
-                return project_within(alloc, right, range, how, steps);
+                return project_span(alloc, Span { tree: right, range }, how, steps);
             }
-            let front = project_within(alloc, left, range.left_part(), how, steps)?;
+            let low = Span {
+                tree: left,
+                range: range.left_part(),
+            };
+            let high = Span {
+                tree: right,
+                range: range.right_part(),
+            };
+            let front = project_span(alloc, low, how, steps)?;
             let middle = project_entry::<A, P>(alloc, key, val, how)?;
-            let back = project_within(alloc, right, range.right_part(), how, steps)?;
+            let back = project_span(alloc, high, how, steps)?;
             let behind = how.meet(alloc, middle, back)?;
             how.meet(alloc, front, behind)
         }

@@ -2,8 +2,9 @@
 ghost use Rattle.std.specs.Prelude.{◌≡◌, ◌+◌, ◌≤◌};
 ghost use Rattle.aug_query.specs.Within.{ends_before, begins_after, is_all, left_part, right_part};
 
-use aug_monoid::{Key, Steps};
+use aug_monoid::{Augment, Key, Leaf, Steps};
 use std::sync::ledger::Ledger;
+use tree_base::{BlockSize, TreeOver};
 
 /// A range of keys.
 #[derive(Drop)]
@@ -87,4 +88,17 @@ impl<'a, K: Key> KeyRange<'a, K> {
             KeyRange::Above { .. } => KeyRange::All,
         }
     }
+}
+
+/// The entries of a tree with keys in a range.
+#[derive(Drop)]
+pub(crate) struct Span<'a, A: Augment, L: Leaf<A::Key, A::Val>, S: BlockSize> {
+    pub(crate) tree: &'a TreeOver<A, L, S>,
+    pub(crate) range: KeyRange<'a, A::Key>,
+}
+
+/// A tree in a struct of its own, as the recursions that count steps take it.
+#[derive(Drop)]
+pub(crate) struct Part<'a, A: Augment, L: Leaf<A::Key, A::Val>, S: BlockSize> {
+    pub(crate) tree: &'a TreeOver<A, L, S>,
 }
