@@ -37,7 +37,7 @@ fn project_range<A: Augment, L: Leaf<A::Key, A::Val>, S: BlockSize, P: Project<A
     requires name { blank.name ≡ C.name }
     requires parts { blank.parts ≡ C.parts }
     requires some { 0 < blank.parts }
-    ensures value { IfOk result (λ out. out ≡ project A.Key.cmp A.base_of A.unit_of A.combined (P.image_of how.now) tree.now.entries lo.now hi.now) }
+    ensures { IfOk result (λ out. out ≡ project A.Key.cmp A.base_of A.unit_of A.combined (P.image_of how.now) tree.now.entries lo.now hi.now) }
 {
     let mut steps = Steps::<C>::start(blank);
     let range = KeyRange::Between { lo, hi };
@@ -50,7 +50,7 @@ fn project_whole<A: Augment, L: Leaf<A::Key, A::Val>, S: BlockSize, P: Project<A
     tree: &TreeOver<A, L, S>,
     how: &P,
 ) -> Result<P::Out, NoMemory>
-    ensures value { IfOk result (λ out. out ≡ P.image_of how.now (fold_of A.base_of A.unit_of A.combined tree.now.entries)) }
+    ensures { IfOk result (λ out. out ≡ P.image_of how.now (fold_of A.base_of A.unit_of A.combined tree.now.entries)) }
 {
     match tree.aug() {
         Some(fold) => how.image(alloc, fold),
@@ -65,7 +65,7 @@ fn project_entry<A: Augment, P: Project<A>>(
     val: &A::Val,
     how: &P,
 ) -> Result<P::Out, NoMemory>
-    ensures value { IfOk result (λ out. out ≡ P.image_of how.now (A.base_of key.now val.now)) }
+    ensures { IfOk result (λ out. out ≡ P.image_of how.now (A.base_of key.now val.now)) }
 {
     let base = A::base(key, val, alloc)?;
     how.image(alloc, &base)
@@ -80,7 +80,7 @@ fn project_block<A: Augment, L: Leaf<A::Key, A::Val>, P: Project<A>, C: Ledger>(
     steps: &mut Steps<C>,
 ) -> Result<P::Out, NoMemory>
     requires { IsIncreasing A.Key.cmp (L.entries leaf.now) }
-    ensures value { IfOk result (λ out. out ≡ P.image_of how.now (fold_of A.base_of A.unit_of A.combined (within A.Key.cmp range.now (L.entries leaf.now)))) }
+    ensures { IfOk result (λ out. out ≡ P.image_of how.now (fold_of A.base_of A.unit_of A.combined (within A.Key.cmp range.now (L.entries leaf.now)))) }
 {
     let mut out = how.image(alloc, &A::unit())?;
     let mut walk = leaf.walk();
@@ -107,7 +107,7 @@ fn project_span<A: Augment, L: Leaf<A::Key, A::Val>, S: BlockSize, P: Project<A>
     how: &P,
     steps: &mut Steps<C>,
 ) -> Result<P::Out, NoMemory>
-    ensures value { IfOk result (λ out. out ≡ P.image_of how.now (fold_of A.base_of A.unit_of A.combined (within A.Key.cmp span.entry.range span.entry.tree.now.entries))) }
+    ensures { IfOk result (λ out. out ≡ P.image_of how.now (fold_of A.base_of A.unit_of A.combined (within A.Key.cmp span.entry.range span.entry.tree.now.entries))) }
 {
     let Span { tree, range } = span;
     if range.is_all() {

@@ -27,4 +27,4 @@ loop-at-preserved g c =
     let entries = g.L.Leaf.entries c.args.leaf.now in
     let entry : slice_get entries c.loop-at._at ≡ Some (c.in-Some.key, c.in-Some.val) = sym (rw c.loop-at.invariant.1 at c.in_ok-key.ensures.value) ∙ c.in-Some.is in
     let more = image_more g.met.A.Key.Ord.total c.args.range.now entries c.loop-at._at c.in-Some.key c.in-Some.val entry law.monoid law.base_fits (g.P.Project.image_of c.args.how.now) (g.P.Project.met c.args.how.now) (g.met.P.Project.projection c.args.how.now) c.requires (sym c.ends_before.ensures.value ∙ c.if-ends_before.false) (sym c.begins_after.ensures.value ∙ c.if-begins_after.false) in
-    (c.in_ok-out-2.ensures ∙ rw (c.loop-at.invariant.0, c.in_ok-image.ensures.value) (sym more), search rules, search rules)
+    (c.in_ok-out-2.ensures ∙ rw (c.loop-at.invariant.0, c.in_ok-image.ensures) (sym more), search rules, search rules)
