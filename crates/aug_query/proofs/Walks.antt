@@ -1,9 +1,10 @@
 -- A walk over the entries of a block, entry by entry.
-use Rattle.std.proofs.Common.{◌≡◌, ℕ, ◌+◌, ◌<◌, true, false, cond, List, [], ◌∷◌, ◌++◌, length, take, drop, Some, refl, sym, ap, ◌∙◌, subst, take-append-drop}
+use Rattle.std.proofs.Common.{◌≡◌, ℕ, ◌+◌, ◌<◌, Bool, true, false, cond, List, [], ◌∷◌, ◌++◌, length, take, drop, Some, refl, sym, ap, ◌∙◌, subst, take-append-drop}
 use Rattle.std.specs.declared.cmp.Ordering.{Ordering}
 use Rattle.std.specs.Cmp.{IsTotalOrder}
-use Rattle.std.specs.List.{slice_get}
+use Rattle.std.specs.List.{filter, slice_get}
 use Rattle.std.proofs.lemmas.List.{take_more, drop_more, append-nil}
+use Rattle.std.proofs.lemmas.List.Elements.{filter-append}
 use Rattle.std.proofs.lemmas.Option.{slice_get_within, get_or_from_slice_get}
 use Rattle.map_model.specs.Entries.{IsIncreasing}
 use Rattle.map_model.specs.Fold.{IsMonoidOver, IsProjection, fold_of}
@@ -22,6 +23,10 @@ module _ {E : Type 0} (m : List E) (i : ℕ) (e : E) (is : slice_get m i ≡ Som
   pub around_here : m ≡ take i m ++ e ∷ drop (i + 1) m
   around_here =
       sym (take-append-drop i m) ∙ ap (λ x. take i m ++ x) (drop_more m i e (slice_get_within m i e is) ∙ ap (λ x. x ∷ drop (i + 1) m) (get_or_from_slice_get m i e e is))
+
+  -- the entries before a place that pass a test, and the one there
+  pub filter_more : (p : E → Bool) → filter p (take (i + 1) m) ≡ filter p (take i m) ++ cond (p e) (e ∷ []) []
+  filter_more p = ap (filter p) take_here ∙ filter-append p (take i m) (e ∷ [])
 
 module _ {K V : Type 0} {order : K → K → Ordering} (total : IsTotalOrder order) (range : KeyRange K) (m : List (K × V)) (i : ℕ) (k : K) (v : V) (is : slice_get m i ≡ Some (k, v)) where
   -- an entry in the range
