@@ -1,5 +1,5 @@
 -- A walk over the entries of a block, entry by entry.
-use Rattle.std.proofs.Common.{◌≡◌, ℕ, ◌+◌, ◌<◌, Bool, true, false, cond, List, [], ◌∷◌, ◌++◌, length, take, drop, Some, refl, sym, ap, ◌∙◌, subst, take-append-drop}
+use Rattle.std.proofs.Common.{◌≡◌, ℕ, ◌+◌, ◌<◌, Bool, true, false, cond, List, [], ◌∷◌, ◌++◌, length, take, drop, Some, refl, sym, ap, ap₂, ◌∙◌, subst, length-append, take-append-drop, arith}
 use Rattle.std.specs.declared.cmp.Ordering.{Ordering}
 use Rattle.std.specs.Cmp.{IsTotalOrder}
 use Rattle.std.specs.List.{filter, slice_get}
@@ -9,10 +9,29 @@ use Rattle.std.proofs.lemmas.Option.{slice_get_within, get_or_from_slice_get}
 use Rattle.map_model.specs.Entries.{IsIncreasing}
 use Rattle.map_model.specs.Fold.{IsMonoidOver, IsProjection, fold_of}
 use Rattle.map_model.proofs.Keys.{IsIncreasing-front, IsIncreasing-filter}
+use Rattle.map_model.proofs.Lengths.{length-filter_le}
 use Rattle.map_model.proofs.Folds.{fold-append, fold-one}
 use Rattle.aug_query.specs.declared.range.KeyRange.{KeyRange}
 use Rattle.aug_query.specs.Within.{in_range, ends_before, begins_after, within}
 use Rattle.aug_query.proofs.Ranges.{inside, within-append, within-before, within-early}
+
+-- a filter that leaves nothing out
+pub filter_whole : {E : Type 0} (p : E → Bool) (m : List E) → length (filter p m) ≡ length m → filter p m ≡ m
+filter_whole p [] h = refl
+filter_whole p (x ∷ m) h = elim (p x) as (λ b. length (cond b (x ∷ filter p m) (filter p m)) ≡ length (x ∷ m) → cond b (x ∷ filter p m) (filter p m) ≡ x ∷ m) [
+  | true ↦ λ same. ap (λ z. x ∷ z) (filter_whole p m (omega (arith, same)))
+  | false ↦ λ same. absurd (omega (arith, same, length-filter_le p m))
+] h
+
+-- two filtered sides that leave nothing out
+pub filter_sides : {E : Type 0} (p : E → Bool) (whole l : List E) (e : E) (r : List E) → whole ≡ l ++ e ∷ r → length (filter p l) + length (filter p r) + 1 ≡ length whole → whole ≡ filter p l ++ e ∷ filter p r
+filter_sides p whole l e r is long =
+    let size = ap length is ∙ length-append l (e ∷ r) in
+    let few = length-filter_le p l in
+    let more = length-filter_le p r in
+    let front = filter_whole p l (omega (arith, size, few, more, long)) in
+    let back = filter_whole p r (omega (arith, size, few, more, long)) in
+    is ∙ ap₂ (λ x y. x ++ e ∷ y) (sym front) (sym back)
 
 module _ {E : Type 0} (m : List E) (i : ℕ) (e : E) (is : slice_get m i ≡ Some e) where
   -- the entries before a place, and the one there

@@ -1,6 +1,7 @@
 //! Filters by the augmented values.
-ghost use Rattle.std.specs.Prelude.{◌≡◌, ◌<◌, [], true, IfOk};
-ghost use Rattle.map_model.specs.Entries.{IsIncreasing};
+ghost use Rattle.std.specs.Prelude.{◌≡◌, ◌+◌, ◌*◌, ◌<◌, ◌≤◌, [], ◌∷◌, ◌++◌, length, true, if◌then◌else◌, IfOk};
+ghost use Rattle.map_model.specs.Balance.{IsBlockSize};
+ghost use Rattle.map_model.specs.Entries.{AllAbove, AllBelow, IsIncreasing};
 ghost use Rattle.map_model.specs.Fold.{aug_filter};
 
 use crate::range::Part;
@@ -75,6 +76,55 @@ fn fails_whole<A: Augment, L: Leaf<A::Key, A::Val>, S: BlockSize, T: AugTest<A>>
     }
 }
 
+/// The map of the entries of a tree of one block that pass: the tree itself where all do.
+fn filter_leaf<A: Augment, L: Leaf<A::Key, A::Val>, S: BlockSize, T: AugTest<A>, C: Ledger>(
+    alloc: Global,
+    tree: &TreeOver<A, L, S>,
+    leaf: &L,
+    test: &T,
+    steps: &mut Steps<C>,
+) -> Result<TreeOver<A, L, S>, NoMemory>
+    requires block_size { IsBlockSize S.SIZE }
+    requires increasing { IsIncreasing A.Key.cmp (L.entries leaf.now) }
+    requires short { length (L.entries leaf.now) ≤ 2 * S.SIZE }
+    requires same { tree.now.entries ≡ L.entries leaf.now }
+    ensures { IfOk result (λ kept. kept.entries ≡ aug_filter A.base_of (T.admits test.now) (L.entries leaf.now)) }
+{
+    let kept = filter_block::<A, L, T>(alloc, leaf, test)?;
+    if kept.len() as u64 == leaf.len() {
+        return tree.share(alloc);
+    }
+    TreeOver::from_increasing(alloc, &kept, steps)
+}
+
+/// What passed of a tree's two sides, with its entry between them where it passes: the tree itself where nothing is left out.
+fn filter_node<A: Augment, L: Leaf<A::Key, A::Val>, S: BlockSize, T: AugTest<A>, C: Ledger>(
+    alloc: Global,
+    tree: &TreeOver<A, L, S>,
+    front: &TreeOver<A, L, S>,
+    key: &A::Key,
+    val: &A::Val,
+    back: &TreeOver<A, L, S>,
+    test: &T,
+    steps: &mut Steps<C>,
+) -> Result<TreeOver<A, L, S>, NoMemory>
+    requires below { AllBelow A.Key.cmp front.now.entries key.now }
+    requires above { AllAbove A.Key.cmp back.now.entries key.now }
+    requires whole { length front.now.entries + length back.now.entries + 1 ≡ length tree.now.entries → tree.now.entries ≡ front.now.entries ++ (key.now, val.now) ∷ back.now.entries }
+    ensures { IfOk result (λ kept. kept.entries ≡ front.now.entries ++ (if T.admits test.now (A.base_of key.now val.now) then (key.now, val.now) ∷ back.now.entries else back.now.entries)) }
+{
+    let base = A::base(key, val, alloc)?;
+    if !test.passes(&base) {
+        return join2(alloc, front, back, steps);
+    }
+    if front.size() + back.size() + 1 == tree.size() {
+        return tree.share(alloc);
+    }
+    let key = key.share(alloc)?;
+    let val = val.share(alloc)?;
+    join(alloc, front, key, val, back, steps)
+}
+
 /// The map of the entries whose augmented values pass.
 fn filter_part<A: Augment, L: Leaf<A::Key, A::Val>, S: BlockSize, T: AugTest<A>, C: Ledger>(
     alloc: Global,
@@ -91,13 +141,7 @@ fn filter_part<A: Augment, L: Leaf<A::Key, A::Val>, S: BlockSize, T: AugTest<A>,
     }
     match tree.look() {
         LookOver::Empty => tree.share(alloc),
-        LookOver::Block { leaf } => {
-            let kept = filter_block::<A, L, T>(alloc, leaf, test)?;
-            if kept.len() as u64 == leaf.len() {
-                return tree.share(alloc);
-            }
-            TreeOver::from_increasing(alloc, &kept, steps)
-        }
+        LookOver::Block { leaf } => filter_leaf(alloc, tree, leaf, test, steps),
         LookOver::Node {
             left,
             key,
@@ -106,16 +150,7 @@ fn filter_part<A: Augment, L: Leaf<A::Key, A::Val>, S: BlockSize, T: AugTest<A>,
         } => {
             let front = filter_part(alloc, Part { tree: left }, test, steps)?;
             let back = filter_part(alloc, Part { tree: right }, test, steps)?;
-            let base = A::base(key, val, alloc)?;
-            if !test.passes(&base) {
-                return join2(alloc, &front, &back, steps);
-            }
-            if front.size() == left.size() && back.size() == right.size() {
-                return tree.share(alloc);
-            }
-            let key = key.share(alloc)?;
-            let val = val.share(alloc)?;
-            join(alloc, &front, key, val, &back, steps)
+            filter_node(alloc, tree, &front, key, val, &back, test, steps)
         }
     }
 }
