@@ -1,0 +1,12 @@
+use Rattle.std.proofs.Common.{arith, refl, sym}
+use Rattle.std.proofs.lemmas.List.{length-take-le}
+use Rattle.diff_leaf.proofs.Builds.{byte_within, front_gaps}
+use Rattle.diff_leaf.proofs.build.front.Goals as goal
+
+pub slice_bounds-push_bytes-end : goal.slice_bounds-push_bytes-end
+slice_bounds-push_bytes-end g c =
+    rw c.deref.ensures.value (sym (length-take-le _ _ (byte_within _ _ _ _ c.requires.gaps _ _ _ c.requires.place)))
+
+pub returns : goal.returns
+returns g c =
+    front_gaps _ _ _ _ c.requires.gaps _ _ _ c.requires.place _ (rw (c.in_ok-push_bytes.ensures, c.in_ok-code.ensures.items, c.deref.ensures.value) (grind arith)) refl refl

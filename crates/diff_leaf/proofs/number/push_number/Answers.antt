@@ -1,0 +1,12 @@
+use Rattle.std.proofs.Common.{List, ℕ, ◌++◌, sym, ap, ◌∙◌, arith, append_assoc}
+use Rattle.std.proofs.lemmas.Result.{IfOk-equal}
+use Rattle.diff_leaf.specs.LebLaws.{leb_small, leb_large}
+use Rattle.diff_leaf.proofs.number.push_number.Goals as goal
+
+pub loop-rest-preserved : goal.loop-rest-preserved
+loop-rest-preserved c =
+    rw (c.in_ok-push_byte.ensures, append_assoc) (ap (λ (t : List ℕ). c.loop-rest.out.items ++ t) (sym (leb_large c.loop-rest.rest c.loop-rest-test.true)) ∙ c.loop-rest.invariant)
+
+pub returns : goal.returns
+returns c =
+    IfOk-equal c.push_byte-2.result _ _ _ c.push_byte-2.ensures (ap (λ (t : List ℕ). c.loop-rest.out.items ++ t) (sym (leb_small c.loop-rest.rest (omega arith))) ∙ c.loop-rest.invariant)

@@ -1,0 +1,166 @@
+//! Gap codes, made of entries and of each other.
+ghost use Rattle.std.specs.Prelude.{◌≡◌, ◌+◌, ◌<◌, ◌≤◌, [], ◌∷◌, ◌++◌, length, take, drop, IfOk, OnOk};
+ghost use Rattle.std.specs.Ordering.{nat_cmp};
+ghost use Rattle.std.specs.declared.cmp.Ordering.TheVariants.{Less};
+ghost use Rattle.map_model.specs.Entries.{IsIncreasing, AllKeys};
+ghost use Rattle.diff_leaf.specs.Code.{code_after, last_key};
+ghost use Rattle.diff_leaf.specs.Stored.{entries_in, IsGaps, IsGapsOf, IsPlaceOf};
+
+use crate::gaps::{Gaps, place_at};
+use crate::number::{number_at, push_number};
+use crate::value_code::ValueCode;
+use aug_monoid::{NoMemory, Walk};
+use std::alloc::Global;
+
+fn push_bytes(out: &mut Vec<u8>, bytes: &[u8]) -> Result<(), NoMemory>
+    ensures { OnOk result (out.new.items ≡ out.old.items ++ bytes.now) }
+{
+    out.extend_from_slice(bytes)?;
+    Ok(())
+}
+
+/// The gap code of entries whose keys rise.
+pub(crate) fn encode<V: ValueCode>(alloc: Global, from: &[(u64, V)]) -> Result<Gaps, NoMemory>
+    requires { IsIncreasing nat_cmp from.now }
+    ensures { IfOk result (λ gaps. IsGapsOf V.fits_bytes V.bytes_of gaps from.now) }
+{
+    let mut code = Vec::with_capacity(alloc, from.len().saturating_mul(4))?;
+    let mut last = 0;
+    for entry in from {
+        let key = entry.0;
+        push_number(&mut code, key - last)?;
+        entry.1.code_to(&mut code)?;
+        last = key;
+    }
+    code.shrink_to_fit();
+    Ok(Gaps {
+        code,
+        len: from.len() as u64,
+        last,
+    })
+}
+
+/// The entries before a place.
+fn front<V: ValueCode>(alloc: Global, gaps: &Gaps, place: &Walk) -> Result<Gaps, NoMemory>
+    requires gaps { IsGaps V.fits_bytes V.bytes_of V.value_of gaps.now }
+    requires place { IsPlaceOf V.bytes_of (entries_in V.bytes_of V.value_of gaps.now) place.now }
+    ensures { IfOk result (λ part. IsGapsOf V.fits_bytes V.bytes_of part
+        (take place.now.index (entries_in V.bytes_of V.value_of gaps.now))) }
+{
+    let mut code = Vec::with_capacity(alloc, place.byte as usize)?;
+    push_bytes(&mut code, &gaps.code[..place.byte as usize])?;
+    Ok(Gaps {
+        code,
+        len: place.index,
+        last: place.key,
+    })
+}
+
+/// The entries from a place on, of which there is one: only the first key is coded anew.
+fn back<V: ValueCode>(alloc: Global, gaps: &Gaps, place: &Walk) -> Result<Gaps, NoMemory>
+    requires gaps { IsGaps V.fits_bytes V.bytes_of V.value_of gaps.now }
+    requires place { IsPlaceOf V.bytes_of (entries_in V.bytes_of V.value_of gaps.now) place.now }
+    requires inside { place.now.index < gaps.now.len }
+    ensures { IfOk result (λ part. IsGapsOf V.fits_bytes V.bytes_of part
+        (drop place.now.index (entries_in V.bytes_of V.value_of gaps.now))) }
+{
+    let (gap, after) = number_at(&gaps.code, place.byte as usize);
+    let mut code = Vec::with_capacity(alloc, gaps.code.len().saturating_add(9))?;
+    push_number(&mut code, place.key + gap)?;
+    push_bytes(&mut code, &gaps.code[after..])?;
+    code.shrink_to_fit();
+    Ok(Gaps {
+        code,
+        len: gaps.len - place.index,
+        last: gaps.last,
+    })
+}
+
+fn back_or_none<V: ValueCode>(alloc: Global, gaps: &Gaps, place: &Walk) -> Result<Gaps, NoMemory>
+    requires gaps { IsGaps V.fits_bytes V.bytes_of V.value_of gaps.now }
+    requires place { IsPlaceOf V.bytes_of (entries_in V.bytes_of V.value_of gaps.now) place.now }
+    ensures { IfOk result (λ part. IsGapsOf V.fits_bytes V.bytes_of part
+        (drop place.now.index (entries_in V.bytes_of V.value_of gaps.now))) }
+{
+    if place.index < gaps.len {
+        return back::<V>(alloc, gaps, place);
+    }
+    Ok(Gaps {
+        code: Vec::new(alloc),
+        len: 0,
+        last: 0,
+    })
+}
+
+/// The first entries, and the others.
+pub(crate) fn cut<V: ValueCode>(
+    alloc: Global,
+    gaps: &Gaps,
+    at: u64,
+) -> Result<(Gaps, Gaps), NoMemory>
+    requires gaps { IsGaps V.fits_bytes V.bytes_of V.value_of gaps.now }
+    requires inside { at ≤ gaps.now.len }
+    ensures front { IfOk result (λ parts. IsGapsOf V.fits_bytes V.bytes_of parts.0
+        (take at (entries_in V.bytes_of V.value_of gaps.now))) }
+    ensures back { IfOk result (λ parts. IsGapsOf V.fits_bytes V.bytes_of parts.1
+        (drop at (entries_in V.bytes_of V.value_of gaps.now))) }
+{
+    let place = place_at::<V>(gaps, at);
+    let first = front::<V>(alloc, gaps, &place)?;
+    let others = back_or_none::<V>(alloc, gaps, &place)?;
+    Ok((first, others))
+}
+
+/// Appends entries that come after a key: only the first gap is coded anew.
+fn push_after<V: ValueCode>(out: &mut Vec<u8>, key: u64, gaps: &Gaps) -> Result<(), NoMemory>
+    requires gaps { IsGaps V.fits_bytes V.bytes_of V.value_of gaps.now }
+    requires above { AllKeys (λ k. nat_cmp key k ≡ Less) (entries_in V.bytes_of V.value_of gaps.now) }
+    ensures { OnOk result (out.new.items ≡ out.old.items ++
+        code_after V.bytes_of key (entries_in V.bytes_of V.value_of gaps.now)) }
+{
+    if gaps.len == 0 {
+        return Ok(());
+    }
+    let (first, after) = number_at(&gaps.code, 0);
+    push_number(out, first - key)?;
+    push_bytes(out, &gaps.code[after..])
+}
+
+/// The last key of entries that come after a key.
+fn last_after<V: ValueCode>(key: u64, gaps: &Gaps) -> u64
+    requires { IsGaps V.fits_bytes V.bytes_of V.value_of gaps.now }
+    ensures { result ≡ last_key key (entries_in V.bytes_of V.value_of gaps.now) }
+{
+    if gaps.len == 0 { key } else { gaps.last }
+}
+
+/// The entries of one, an entry, and those of another.
+pub(crate) fn concat<V: ValueCode>(
+    alloc: Global,
+    left: &Gaps,
+    key: u64,
+    val: &V,
+    right: &Gaps,
+) -> Result<Gaps, NoMemory>
+    requires left { IsGaps V.fits_bytes V.bytes_of V.value_of left.now }
+    requires right { IsGaps V.fits_bytes V.bytes_of V.value_of right.now }
+    requires increasing { IsIncreasing nat_cmp (entries_in V.bytes_of V.value_of left.now
+        ++ (key, val.now) ∷ entries_in V.bytes_of V.value_of right.now) }
+    requires short { length (entries_in V.bytes_of V.value_of left.now
+        ++ (key, val.now) ∷ entries_in V.bytes_of V.value_of right.now) ≤ 512 }
+    ensures { IfOk result (λ gaps. IsGapsOf V.fits_bytes V.bytes_of gaps
+        (entries_in V.bytes_of V.value_of left.now ++ (key, val.now) ∷ entries_in V.bytes_of V.value_of right.now)) }
+{
+    let bytes = left.code.len().saturating_add(right.code.len());
+    let mut code = Vec::with_capacity(alloc, bytes.saturating_add(20))?;
+    push_bytes(&mut code, &left.code)?;
+    push_number(&mut code, key - left.last)?;
+    val.code_to(&mut code)?;
+    push_after::<V>(&mut code, key, right)?;
+    code.shrink_to_fit();
+    Ok(Gaps {
+        code,
+        len: left.len + 1 + right.len,
+        last: last_after::<V>(key, right),
+    })
+}

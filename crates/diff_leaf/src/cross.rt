@@ -1,0 +1,11 @@
+//! A block crosses threads.
+use crate::leaf::DiffLeaf;
+use crate::value_code::ValueCode;
+use std::marker::{Send, Sync};
+
+fn crosses<T: Send + Sync>(_value: &T) {}
+
+/// A block is sent to and shared among threads where its values are.
+pub fn leaf_crosses<V: ValueCode + Send + Sync>(leaf: &DiffLeaf<V>) {
+    crosses(leaf);
+}

@@ -1,0 +1,92 @@
+//! The bytes of small blocks, worked out by hand, and a block through its trait.
+ghost use Rattle.std.specs.Prelude.{◌≡◌, ◌<◌};
+
+use crate::*;
+use aug_monoid::{Key, Leaf, NoMemory, Seek, Share, Steps};
+use std::alloc::Global;
+use std::marker::Brand;
+use std::sync::ledger::{Blank, Ledger};
+
+fn counted_seek<K: Key, V: Share, L: Leaf<K, V>, C: Ledger>(leaf: &L, key: &K, blank: Blank) -> Seek
+    requires name { blank.name ≡ C.name }
+    requires parts { blank.parts ≡ C.parts }
+    requires some { 0 < blank.parts }
+{
+    let mut steps = Steps::<C>::start(blank);
+    leaf.seek(key, &mut steps)
+}
+
+fn seek_of<K: Key, V: Share, L: Leaf<K, V>>(leaf: &L, key: &K) -> (u64, bool) {
+    let seek = counted_seek::<K, V, L, Brand>(leaf, key, Blank::new(1));
+    (seek.at, seek.hit)
+}
+
+// The entries that a walk gives, with one call more than there are entries.
+fn walked<K: Key, V: Share, L: Leaf<K, V>>(
+    alloc: Global,
+    leaf: &L,
+) -> Result<Vec<(K, V)>, NoMemory> {
+    let mut entries = Vec::new(alloc);
+    let mut walk = leaf.walk();
+    for _ in 0..leaf.len() {
+        if let Some(entry) = leaf.walk_next(alloc, &mut walk)? {
+            entries.push(entry)?;
+        }
+    }
+    if let Some(entry) = leaf.walk_next(alloc, &mut walk)? {
+        entries.push(entry)?;
+    }
+    Ok(entries)
+}
+
+#[test]
+fn keys_without_values(rt: HostRuntime) -> Result<(), NoMemory> {
+    let alloc = rt.alloc();
+    let entries = [(0, ()), (127, ()), (128, ()), (300, ())];
+    let leaf = DiffLeaf::<()>::from_entries(alloc, &entries)?;
+    assert_eq!(rt; leaf.code(), [0x00, 0x7f, 0x01, 0xac, 0x01].as_slice());
+    assert!(rt; leaf.get_at(alloc, 3)? == Some((300, ())));
+    assert!(rt; leaf.get_at(alloc, 4)? == None);
+    assert_eq!(rt; walked(alloc, &leaf)?.as_slice(), entries.as_slice());
+    for (key, at, hit) in [
+        (0, 0, true),
+        (1, 1, false),
+        (128, 2, true),
+        (300, 3, true),
+        (301, 4, false),
+    ] {
+        assert_eq!(rt; seek_of(&leaf, &key), (at, hit), "key {key}");
+    }
+    leaf_crosses(&leaf);
+    Ok(())
+}
+
+#[test]
+fn the_greatest_key(rt: HostRuntime) -> Result<(), NoMemory> {
+    let leaf = DiffLeaf::<()>::from_entries(rt.alloc(), &[(u64::MAX, ())])?;
+    let bytes = [0xff, 0xff, 0xff, 0xff, 0xff, 0xff, 0xff, 0xff, 0xff, 0x01];
+    assert_eq!(rt; leaf.code(), bytes.as_slice());
+    Ok(())
+}
+
+#[test]
+fn a_value_after_each_gap(rt: HostRuntime) -> Result<(), NoMemory> {
+    let alloc = rt.alloc();
+    let leaf = DiffLeaf::<u64>::from_entries(alloc, &[(5, 300)])?;
+    assert_eq!(rt; leaf.code(), [0x05, 0xac, 0x02].as_slice());
+    let (front, back) = leaf.cut_at(alloc, 0)?;
+    assert_eq!(rt; front.len(), 0);
+    assert_eq!(rt; front.code().len(), 0);
+    assert!(rt; back.get_at(alloc, 0)? == Some((5, 300)));
+    let whole = back.concat3(alloc, 7, 1, &front)?;
+    assert_eq!(rt; whole.code(), [0x05, 0xac, 0x02, 0x02, 0x01].as_slice());
+    let (low, high) = whole.cut_at(alloc, 1)?;
+    assert_eq!(rt; low.code(), leaf.code());
+    assert_eq!(rt; high.code(), [0x07, 0x01].as_slice());
+    let joined = low.concat3(alloc, 6, 2, &high)?;
+    assert_eq!(rt;
+        walked(alloc, &joined)?.as_slice(),
+        [(5, 300), (6, 2), (7, 1)].as_slice()
+    );
+    Ok(())
+}

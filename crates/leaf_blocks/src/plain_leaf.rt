@@ -1,0 +1,106 @@
+//! A block as a vector of entries.
+ghost use Rattle.std.specs.Prelude.{◌≤◌, length};
+
+use crate::copying::{push_shares, share_entry, shares_of};
+use crate::seeking::seek_in;
+use aug_monoid::{Key, Leaf, NoMemory, Seek, Share, Steps, Walk};
+use std::alloc::Global;
+use std::marker::Model;
+use std::sync::ledger::Ledger;
+
+/// A block as a vector of entries whose keys rise. It is searched by halves, in at most 9
+/// comparisons of keys where it has at most 256 entries. `cut_at`, `concat3` and `from_entries`
+/// allocate each vector once and share each entry once.
+#[derive(Drop)]
+pub struct PlainLeaf<K: Key, V: Share> {
+    entries: Vec<(K, V)>,
+}
+
+impl<K: Key, V: Share> Model for PlainLeaf<K, V> {
+    ghost use Rattle.std.specs.Prelude.{List};
+
+    ghost Value = { List (K × V) };
+
+    ghost use Rattle.map_model.specs.Entries.{IsIncreasing};
+
+    ghost view = { λ l. l.entries.items };
+
+    ghost invariant = { λ l. IsIncreasing K.cmp l.entries.items };
+}
+
+impl<K: Key, V: Share> Leaf<K, V> for PlainLeaf<K, V> {
+    const FIND: u64 = 9;
+
+    ghost FIND = { 9 };
+
+    ghost entries = { λ l. l };
+
+    ghost fits_walk = { λ l walk. walk.index ≤ length l };
+
+    ghost walk_within = { λ l walk fits. fits };
+
+    fn from_entries(alloc: Global, from: &[(K, V)]) -> Result<PlainLeaf<K, V>, NoMemory> {
+        let entries = shares_of(alloc, from)?;
+        Ok(PlainLeaf { entries })
+    }
+
+    fn len(&self) -> u64 {
+        self.entries.len() as u64
+    }
+
+    fn get_at(&self, alloc: Global, at: u64) -> Result<Option<(K, V)>, NoMemory> {
+        match self.entries.get(at as usize) {
+            Some(entry) => Ok(Some(share_entry(alloc, entry)?)),
+            None => Ok(None),
+        }
+    }
+
+    fn seek<C: Ledger>(&self, key: &K, steps: &mut Steps<C>) -> Seek {
+        seek_in(&self.entries, key, steps)
+    }
+
+    fn walk(&self) -> Walk {
+        Walk {
+            index: 0,
+            byte: 0,
+            key: 0,
+        }
+    }
+
+    fn walk_next(&self, alloc: Global, walk: &mut Walk) -> Result<Option<(K, V)>, NoMemory> {
+        match self.entries.get(walk.index as usize) {
+            Some(entry) => {
+                let entry = share_entry(alloc, entry)?;
+                walk.index += 1;
+                Ok(Some(entry))
+            }
+            None => Ok(None),
+        }
+    }
+
+    fn cut_at(
+        &self,
+        alloc: Global,
+        at: u64,
+    ) -> Result<(PlainLeaf<K, V>, PlainLeaf<K, V>), NoMemory> {
+        let (before, after) = self.entries.split_at(at as usize);
+        let front = shares_of(alloc, before)?;
+        let back = shares_of(alloc, after)?;
+        Ok((PlainLeaf { entries: front }, PlainLeaf { entries: back }))
+    }
+
+    fn concat3(
+        &self,
+        alloc: Global,
+        key: K,
+        val: V,
+        right: &PlainLeaf<K, V>,
+    ) -> Result<PlainLeaf<K, V>, NoMemory> {
+        let count = self.entries.len() + 1 + right.entries.len();
+        let mut entries = Vec::with_capacity(alloc, count)?;
+        push_shares(alloc, &mut entries, &self.entries)?;
+        entries.push_reserved((key, val));
+        push_shares(alloc, &mut entries, &right.entries)?;
+        Ok(PlainLeaf { entries })
+    }
+}

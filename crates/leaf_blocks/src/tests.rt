@@ -1,0 +1,110 @@
+//! A block through its trait.
+ghost use Rattle.std.specs.Prelude.{◌≡◌, ◌<◌};
+
+use crate::*;
+use aug_monoid::{Key, Leaf, NoMemory, Pair64, Seek, Share, Steps};
+use std::alloc::Global;
+use std::marker::Brand;
+use std::sync::ledger::{Blank, Ledger};
+
+fn counted_seek<K: Key, V: Share, L: Leaf<K, V>, C: Ledger>(leaf: &L, key: &K, blank: Blank) -> Seek
+    requires name { blank.name ≡ C.name }
+    requires parts { blank.parts ≡ C.parts }
+    requires some { 0 < blank.parts }
+{
+    let mut steps = Steps::<C>::start(blank);
+    leaf.seek(key, &mut steps)
+}
+
+fn seek_of<K: Key, V: Share, L: Leaf<K, V>>(leaf: &L, key: &K) -> (u64, bool) {
+    let seek = counted_seek::<K, V, L, Brand>(leaf, key, Blank::new(1));
+    (seek.at, seek.hit)
+}
+
+// The entries that a walk gives, with one call more than there are entries.
+fn walked<K: Key, V: Share, L: Leaf<K, V>>(
+    alloc: Global,
+    leaf: &L,
+) -> Result<Vec<(K, V)>, NoMemory> {
+    let mut entries = Vec::new(alloc);
+    let mut walk = leaf.walk();
+    for _ in 0..leaf.len() {
+        if let Some(entry) = leaf.walk_next(alloc, &mut walk)? {
+            entries.push(entry)?;
+        }
+    }
+    if let Some(entry) = leaf.walk_next(alloc, &mut walk)? {
+        entries.push(entry)?;
+    }
+    Ok(entries)
+}
+
+#[test]
+fn keys_are_found_at_their_places(rt: HostRuntime) -> Result<(), NoMemory> {
+    let alloc = rt.alloc();
+    let entries = [(2, 20), (4, 40), (6, 60), (8, 80), (10, 100)];
+    let leaf = PlainLeaf::<u64, u64>::from_entries(alloc, &entries)?;
+    assert_eq!(rt; leaf.len(), 5);
+    for (key, at, hit) in [
+        (0, 0, false),
+        (2, 0, true),
+        (3, 1, false),
+        (4, 1, true),
+        (6, 2, true),
+        (7, 3, false),
+        (8, 3, true),
+        (10, 4, true),
+        (11, 5, false),
+    ] {
+        assert_eq!(rt; seek_of(&leaf, &key), (at, hit), "key {key}");
+    }
+    let none = PlainLeaf::<u64, u64>::from_entries(alloc, &[])?;
+    assert_eq!(rt; seek_of(&none, &3), (0, false));
+    assert!(rt; leaf.get_at(alloc, 4)? == Some((10, 100)));
+    assert!(rt; leaf.get_at(alloc, 5)? == None);
+    Ok(())
+}
+
+#[test]
+fn a_walk_gives_all_entries(rt: HostRuntime) -> Result<(), NoMemory> {
+    let alloc = rt.alloc();
+    let entries = [
+        (
+            Pair64 {
+                first: 1,
+                second: 9,
+            },
+            (),
+        ),
+        (
+            Pair64 {
+                first: 2,
+                second: 0,
+            },
+            (),
+        ),
+    ];
+    let leaf = PlainLeaf::<Pair64, ()>::from_entries(alloc, &entries)?;
+    leaf_crosses(&leaf);
+    assert_eq!(rt; walked(alloc, &leaf)?.as_slice(), entries.as_slice());
+    Ok(())
+}
+
+#[test]
+fn parts_are_put_together_again(rt: HostRuntime) -> Result<(), NoMemory> {
+    let alloc = rt.alloc();
+    let entries = [(1, 10), (2, 20), (3, 30)];
+    let leaf = PlainLeaf::<u64, u64>::from_entries(alloc, &entries)?;
+    let (front, back) = leaf.cut_at(alloc, 2)?;
+    assert_eq!(rt;
+        walked(alloc, &front)?.as_slice(),
+        [(1, 10), (2, 20)].as_slice()
+    );
+    assert_eq!(rt; walked(alloc, &back)?.as_slice(), [(3, 30)].as_slice());
+    let low = PlainLeaf::<u64, u64>::from_entries(alloc, &[(1, 10)])?;
+    let high = PlainLeaf::<u64, u64>::from_entries(alloc, &[(7, 70), (9, 90)])?;
+    let whole = low.concat3(alloc, 5, 50, &high)?;
+    let joined = [(1, 10), (5, 50), (7, 70), (9, 90)];
+    assert_eq!(rt; walked(alloc, &whole)?.as_slice(), joined.as_slice());
+    Ok(())
+}

@@ -1,0 +1,7 @@
+pub mod Answers
+pub mod Examples
+pub mod Matched
+pub mod Place
+pub mod Registers
+pub mod Replies
+pub mod Sums

@@ -1,0 +1,73 @@
+-- What the program answers to its words and its input.
+use Rattle.std.specs.Prelude.{◌≡◌, ◌⊎◌, ◌<◌, ◌≤◌, [], ℕ, Bool, true, false, List, None, IsSome, IsSomeAnd, IsOkAnd, IsErrAnd, length}
+use Rattle.script.specs.Commands.{commands_of}
+use Rattle.script.specs.Lines.{IsPrefix, error_line_of}
+use Rattle.script.specs.declared.parsed.Tool.{Tool}
+use Rattle.pam_top.specs.Output.{IsOutput}
+use Rattle.pam_top.specs.Settings.{settings_of}
+use Rattle.pam_top.specs.declared.status.Status.{Status}
+use Rattle.pam_top.specs.declared.status.Status.TheVariants as status
+
+-- the most bytes of an input
+abbrev pub input_limit : ℕ
+input_limit = 67108864
+
+-- the answer of a tool to a whole input that is not too large
+abbrev pub ToolAnswer : Tool → List ℕ → Status → List ℕ → Type 0
+ToolAnswer tool bytes status.Ok text = IsOkAnd (commands_of tool bytes) (λ commands. IsOutput commands text)
+ToolAnswer tool bytes status.BadRecord text = IsErrAnd (commands_of tool bytes) (λ bad. text ≡ error_line_of bad)
+ToolAnswer tool bytes status.Usage text = ⊥
+ToolAnswer tool bytes status.TooLarge text = ⊥
+ToolAnswer tool bytes status.ReadFault text = ⊥
+ToolAnswer tool bytes status.WriteFault text = ⊥
+ToolAnswer tool bytes status.NoMemory text = ⊥
+
+-- the answer to the words and the whole input
+abbrev pub Answer : List (List ℕ) → List ℕ → Status → List ℕ → Type 0
+Answer words bytes status.Ok text = IsSomeAnd (settings_of words) (λ settings. (length bytes ≤ input_limit) × ToolAnswer settings.tool bytes status.Ok text)
+Answer words bytes status.Usage text = (settings_of words ≡ None) × (text ≡ [])
+Answer words bytes status.BadRecord text = IsSomeAnd (settings_of words) (λ settings. (length bytes ≤ input_limit) × ToolAnswer settings.tool bytes status.BadRecord text)
+Answer words bytes status.TooLarge text = IsSome (settings_of words) × (input_limit < length bytes) × (text ≡ [])
+Answer words bytes status.ReadFault text = ⊥
+Answer words bytes status.WriteFault text = ⊥
+Answer words bytes status.NoMemory text = ⊥
+
+-- what was taken from the source and appended to the sink, at each status
+abbrev pub Outcome : List (List ℕ) → List ℕ → Status → List ℕ → Type 0
+Outcome words bytes status.Ok text = Answer words bytes status.Ok text
+Outcome words bytes status.Usage text = Answer words bytes status.Usage text × (bytes ≡ [])
+Outcome words bytes status.BadRecord text = Answer words bytes status.BadRecord text
+Outcome words bytes status.TooLarge text = Answer words bytes status.TooLarge text
+Outcome words bytes status.ReadFault text = IsSome (settings_of words) × (length bytes ≤ input_limit) × (text ≡ [])
+Outcome words bytes status.WriteFault text = (made : List ℕ) × IsPrefix text made × (Answer words bytes status.Ok made ⊎ Answer words bytes status.BadRecord made)
+Outcome words bytes status.NoMemory text = text ≡ []
+
+-- the statuses at which the whole input was read
+abbrev pub was_read : Status → Bool
+was_read status.Ok = true
+was_read status.Usage = false
+was_read status.BadRecord = true
+was_read status.TooLarge = false
+was_read status.ReadFault = false
+was_read status.WriteFault = true
+was_read status.NoMemory = false
+
+-- the statuses at which nothing was written
+abbrev pub was_silent : Status → Bool
+was_silent status.Ok = false
+was_silent status.Usage = true
+was_silent status.BadRecord = false
+was_silent status.TooLarge = true
+was_silent status.ReadFault = true
+was_silent status.WriteFault = false
+was_silent status.NoMemory = true
+
+-- the number of a status
+abbrev pub status_code : Status → ℕ
+status_code status.Ok = 0
+status_code status.Usage = 2
+status_code status.BadRecord = 3
+status_code status.TooLarge = 4
+status_code status.ReadFault = 5
+status_code status.WriteFault = 6
+status_code status.NoMemory = 7

@@ -1,0 +1,8 @@
+pub mod CommandLine
+pub mod Settings
+pub mod Replies
+pub mod Map
+pub mod Output
+pub mod Answer
+pub mod InputRead
+pub mod Places

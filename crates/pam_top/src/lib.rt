@@ -1,0 +1,19 @@
+//! The program behind its words, its source and its sink.
+#![tactic(auto)]
+
+mod answering;
+mod command_line;
+pub mod plain_map;
+mod reading;
+mod running;
+mod settings;
+mod status;
+#[cfg(test)]
+mod tests;
+mod top;
+mod words_fault;
+mod writing;
+
+pub use running::run_plain;
+pub use status::Status;
+pub use top::pam;

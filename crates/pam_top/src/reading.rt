@@ -1,0 +1,57 @@
+//! Reads the whole input.
+ghost use Rattle.std.specs.Prelude.{◌≡◌, ◌≤◌, true, length, IfOk, OnOk, IfErr};
+ghost use Rattle.std.specs.Io.KnownBytes.{IsAtEnd};
+ghost use Rattle.io_edge.specs.Edge.{Rose};
+ghost use Rattle.pam_top.specs.InputRead.{ReadsInput};
+ghost use Rattle.pam_top.specs.declared.reading.Stop.TheVariants as stop;
+
+use io_edge::{Failed, Source};
+use std::alloc::{AllocError, Global};
+
+/// The most bytes of an input.
+const INPUT_LIMIT: usize = 67108864;
+
+/// The most bytes that are asked for at a time.
+const CHUNK: usize = 65536;
+
+/// Why the input was not read to its end.
+#[derive(Clone, Copy, Debug, PartialEq, Eq)]
+pub(crate) enum Stop {
+    TooLarge,
+    Fault,
+    NoMemory,
+}
+
+fn empty_chunk(alloc: Global) -> Result<Vec<u8>, AllocError>
+    ensures { IfOk result (λ chunk. length chunk.items ≡ 65536) }
+{
+    vec![in alloc; 0u8; CHUNK]
+}
+
+/// The whole input.
+pub(crate) fn read_input<S: Source>(alloc: Global, source: &mut S) -> Result<Vec<u8>, Stop>
+    ensures bytes { ReadsInput (S.left source.old) (S.left source.new) (λ v. v.items) result }
+    ensures end { OnOk result ((S.ended source.new ≡ true) × IsAtEnd (S.left source.new)) }
+    ensures later { S.faults source.old ≤ S.faults source.new }
+    ensures cause { IfErr result (λ e. e ≡ stop.Fault → Rose (S.faults source.old) (S.faults source.new)) }
+{
+    let Ok(mut chunk) = empty_chunk(alloc) else {
+        return Err(Stop::NoMemory);
+    };
+    let mut input = Vec::new(alloc);
+    for _ in 0..INPUT_LIMIT + 1 {
+        match source.read(&mut chunk) {
+            Ok(0) => return Ok(input),
+            Ok(count) => {
+                if input.extend_from_slice(&chunk[..count]).is_err() {
+                    return Err(Stop::NoMemory);
+                }
+                if input.len() > INPUT_LIMIT {
+                    return Err(Stop::TooLarge);
+                }
+            }
+            Err(Failed) => return Err(Stop::Fault),
+        }
+    }
+    Err(Stop::TooLarge)
+}

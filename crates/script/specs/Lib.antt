@@ -1,0 +1,9 @@
+pub mod Numbers
+pub mod Records
+pub mod Reading
+pub mod Results
+pub mod Fields
+pub mod Map
+pub mod Registers
+pub mod Commands
+pub mod Lines

@@ -1,0 +1,30 @@
+-- The lines that are written.
+use Rattle.std.specs.Prelude.{◌≡◌, ◌++◌, ◌∷◌, [], ℕ, List, codes, decimal}
+use Rattle.std.specs.List.{flat_map}
+use Rattle.script.specs.declared.fault.BadRecord.{BadRecord}
+use Rattle.script.specs.declared.fault.Code.{Code}
+use Rattle.script.specs.declared.fault.Code.TheVariants as code
+
+abbrev pub comma : ℕ
+comma = 44
+
+abbrev pub line_feed : ℕ
+line_feed = 10
+
+-- a word, then a comma and a decimal number for each number, then a line feed
+abbrev pub line_of : List ℕ → List ℕ → List ℕ
+line_of word numbers = word ++ flat_map (λ n. comma ∷ decimal n) numbers ++ line_feed ∷ []
+
+abbrev pub code_word : Code → List ℕ
+code_word code.Verb = codes "verb"
+code_word code.Fields = codes "fields"
+code_word code.Number = codes "number"
+code_word code.Register = codes "register"
+
+-- the one line for a bad record
+abbrev pub error_line_of : BadRecord → List ℕ
+error_line_of bad = codes "error," ++ decimal bad.place ++ comma ∷ code_word bad.code ++ line_feed ∷ []
+
+-- the first part of a text
+abbrev pub IsPrefix : List ℕ → List ℕ → Type 0
+IsPrefix front text = (rest : List ℕ) × (text ≡ front ++ rest)

@@ -1,0 +1,46 @@
+//! Commands of any tool, read from records.
+ghost use Rattle.std.specs.Prelude.{◌≡◌, ℕ, List, Result};
+ghost use Rattle.csv.specs.Records.{fields_of};
+ghost use Rattle.script.specs.Commands.{commands_from};
+ghost use Rattle.script.specs.Records.{records_of};
+ghost use Rattle.script.specs.Results.{Gives, at_place};
+
+use crate::records::Records;
+use crate::{BadRecord, Code, Items, ScriptFault};
+use csv::ByteRecord;
+use std::alloc::Global;
+
+/// A command of a tool.
+pub(crate) trait Command: Sized + Drop {
+    ghost use Rattle.std.specs.Prelude.{ℕ, List, Result};
+    ghost use Rattle.script.specs.declared.fault.Code.{Code};
+
+    /// What a record says, by its number and its fields.
+    ghost reading: { ℕ → List (List ℕ) → Result Self Code };
+
+    /// The command of the record with this number.
+    fn read(place: u64, row: &ByteRecord) -> Result<Self, Code>
+        ensures { result ≡ reading place (fields_of row.now) };
+}
+
+// A record's command, with the record's number at a fault.
+fn read_at<C: Command>(place: u64, row: &ByteRecord) -> Result<C, ScriptFault>
+    ensures { Gives result (at_place place (C.reading place (fields_of row.now))) }
+{
+    C::read(place, row).map_err(|code| ScriptFault::Bad(BadRecord { place, code }))
+}
+
+/// The commands of a text's records, or the first bad record.
+pub(crate) fn read_all<C: Command>(alloc: Global, text: &[u8]) -> Result<Items<C>, ScriptFault>
+    ensures { Gives result (commands_from C.reading 1 (records_of text.now)) }
+{
+    let mut records = Records::new(alloc, text);
+    let mut commands = Vec::new(alloc);
+    for place in 1..u64::MAX {
+        if !records.advance()? {
+            return Ok(Items::new(commands));
+        }
+        commands.push(read_at(place, records.current())?)?;
+    }
+    Err(ScriptFault::NoMemory)
+}

@@ -1,0 +1,61 @@
+//! What may be wrong with a record, and the fault of a whole input.
+ghost use Rattle.std.specs.Prelude.{◌≡◌};
+ghost use Rattle.script.specs.declared.fault.ScriptFault.TheVariants as fault;
+
+use aug_monoid::NoMemory;
+use std::alloc::{AllocError, AllocFailed};
+use thiserror::Error;
+
+/// Why a record is bad. A record is checked in this order, and the first fault counts: its verb,
+/// how many fields it has, and its other fields from left to right.
+#[derive(Clone, Copy, Debug, PartialEq, Eq)]
+pub enum Code {
+    /// The first field is no verb of the tool.
+    Verb,
+    /// The verb has another number of fields.
+    Fields,
+    /// A field is no lawful number.
+    Number,
+    /// A field is no number from 0 to 15.
+    Register,
+}
+
+/// The first bad record, by its number from 1.
+#[derive(Clone, Copy, Debug, PartialEq, Eq)]
+pub struct BadRecord {
+    pub place: u64,
+    pub code: Code,
+}
+
+/// Why an input gave no commands.
+#[derive(Debug, Drop, PartialEq, Eq, Error)]
+pub enum ScriptFault {
+    #[error("Bad")]
+    Bad(BadRecord),
+    #[error("NoMemory")]
+    NoMemory,
+}
+
+impl From<NoMemory> for ScriptFault {
+    ghost from_gives = { λ _ e. e ≡ fault.NoMemory };
+
+    fn from(_: NoMemory) -> Self {
+        ScriptFault::NoMemory
+    }
+}
+
+impl From<AllocError> for ScriptFault {
+    ghost from_gives = { λ _ e. e ≡ fault.NoMemory };
+
+    fn from(_: AllocError) -> Self {
+        ScriptFault::NoMemory
+    }
+}
+
+impl<T: Drop> From<AllocFailed<T>> for ScriptFault {
+    ghost from_gives = { λ _ e. e ≡ fault.NoMemory };
+
+    fn from(_: AllocFailed<T>) -> Self {
+        ScriptFault::NoMemory
+    }
+}

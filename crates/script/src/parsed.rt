@@ -1,0 +1,34 @@
+//! The commands of a whole input.
+ghost use Rattle.std.specs.Prelude.{IfOk};
+ghost use Rattle.script.specs.Commands.{commands_of};
+ghost use Rattle.script.specs.Registers.{NamesRegisters};
+ghost use Rattle.script.specs.Results.{Gives};
+
+use crate::command::read_all;
+use crate::{Items, MapCommand, ScriptFault};
+use std::alloc::Global;
+
+/// A tool of the program.
+#[derive(Clone, Copy, Debug, PartialEq, Eq)]
+pub enum Tool {
+    /// Ordered maps in sixteen registers.
+    Map,
+}
+
+/// The commands of an input.
+#[derive(Drop)]
+pub enum Parsed {
+    Map(Items<MapCommand>),
+}
+
+/// The commands of a tool's input, or its first bad record. Records are those of `csv` with its
+/// default delimiter, quote and line ends, without a header row; an empty line is none.
+/// Time is linear in the input.
+pub fn commands(alloc: Global, tool: Tool, bytes: &[u8]) -> Result<Parsed, ScriptFault>
+    ensures exact { Gives result (commands_of tool bytes.now) }
+    ensures registers { IfOk result NamesRegisters }
+{
+    match tool {
+        Tool::Map => Ok(Parsed::Map(read_all(alloc, bytes)?)),
+    }
+}

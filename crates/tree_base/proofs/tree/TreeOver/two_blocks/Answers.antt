@@ -1,0 +1,31 @@
+use Rattle.std.proofs.Common.{subst, arith}
+use Rattle.map_model.specs.Entries.{IsIncreasing}
+use Rattle.map_model.proofs.Keys.{IsIncreasing-front, around}
+use Rattle.tree_base.proofs.tree.TreeOver.two_blocks.Goals as goal
+
+pub block-requires-clause-increasing : goal.block-requires-clause-increasing
+block-requires-clause-increasing g c = IsIncreasing-front g.A.Key.Ord.cmp _ _ (subst (IsIncreasing g.A.Key.Ord.cmp) c.in_ok-front.ensures.whole c.requires.increasing)
+
+pub block-requires-2-clause-increasing : goal.block-requires-2-clause-increasing
+block-requires-2-clause-increasing g c = (around _ _ _ _ _ (subst (IsIncreasing g.A.Key.Ord.cmp) c.in_ok-front.ensures.whole c.requires.increasing)).right
+
+pub node-requires-clause-increasing : goal.node-requires-clause-increasing
+node-requires-clause-increasing g c = rw (c.in_ok-left.ensures.entries, c.in_ok-right.ensures.entries) (subst (IsIncreasing g.A.Key.Ord.cmp) c.in_ok-front.ensures.whole c.requires.increasing)
+
+pub node-requires-clause-balanced : goal.node-requires-clause-balanced
+node-requires-clause-balanced g c =
+    let cut = c.in_ok-front.ensures in
+    rw (c.in_ok-left.ensures.entries, c.in_ok-right.ensures.entries) (omega (arith, cut.front_length, cut.back_length, c.len.ensures, c.requires.long), omega (arith, cut.front_length, cut.back_length, c.len.ensures, c.requires.long))
+
+pub node-requires-clause-long : goal.node-requires-clause-long
+node-requires-clause-long g c =
+    let cut = c.in_ok-front.ensures in
+    rw (c.in_ok-left.ensures.entries, c.in_ok-right.ensures.entries) (omega (arith, cut.front_length, cut.back_length, c.len.ensures, c.requires.long))
+
+pub node-requires-clause-halved : goal.node-requires-clause-halved
+node-requires-clause-halved g c = λ _.
+    let cut = c.in_ok-front.ensures in
+    rw (c.in_ok-left.ensures.entries, c.in_ok-right.ensures.entries) (omega (arith, cut.front_length, cut.back_length, c.len.ensures))
+
+pub returns-clause-entries : goal.returns-clause-entries
+returns-clause-entries g c = rw c.in_ok-front.ensures.whole (rw (c.in_ok-left.ensures.entries, c.in_ok-right.ensures.entries) at c.node.ensures.entries)
