@@ -27,3 +27,6 @@ pub use joins::join;
 pub use merges::merge;
 pub use puts::{put, single};
 pub use splits::{Parts, PartsOver, split};
+
+#[cfg(test)]
+mod tests;
