@@ -1,4 +1,4 @@
-use Rattle.std.proofs.Common.{◌≡◌, ◌+◌, ◌<◌, ◌≤◌, ◌*◌, ◌∷◌, ◌++◌, length, sym, arith}
+use Rattle.std.proofs.Common.{◌≡◌, length, sym, arith}
 use Rattle.std.specs.declared.cmp.Ordering.TheVariants.{Less}
 use Rattle.map_model.proofs.Keys.{around, AllKeys-filter, IsBefore-around}
 use Rattle.map_model.proofs.Around.{drop_key-around_less, drop_key-around_equal, drop_key-around_greater}

@@ -1,4 +1,4 @@
-use Rattle.std.proofs.Common.{◌≡◌, ◌+◌, ◌<◌, ◌≤◌, ◌*◌, length, sym, ap, ◌∙◌, true, false, arith}
+use Rattle.std.proofs.Common.{sym, ◌∙◌, arith}
 use Rattle.std.proofs.lemmas.Bool.{false_from_ne_true, false≢true, not-true}
 use Rattle.map_model.proofs.Splits.{IsIncreasing-drop_key, drop_key-absent}
 use Rattle.join_core.proofs.Cuts.{drop_sizes, none_of_absent}

@@ -1,5 +1,4 @@
-use Rattle.std.proofs.Common.{◌≡◌, ◌+◌, ◌*◌, ◌≤◌, ◌∷◌, ◌++◌, length, ap, arith}
-use Rattle.join_core.proofs.Weights.{level_more}
+use Rattle.std.proofs.Common.{length, ap, arith}
 use Rattle.join_core.proofs.ends.+take_first.Goals as goal
 
 pub first_of_node-requires-clause-increasing : goal.first_of_node-requires-clause-increasing

@@ -1,4 +1,4 @@
-use Rattle.std.proofs.Common.{◌≡◌, ◌∷◌, ◌++◌, subst}
+use Rattle.std.proofs.Common.{subst}
 use Rattle.map_model.specs.Entries.{IsIncreasing}
 use Rattle.map_model.proofs.Keys.{around}
 use Rattle.join_core.proofs.Cuts.{first_cut}

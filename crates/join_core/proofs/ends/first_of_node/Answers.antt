@@ -1,4 +1,4 @@
-use Rattle.std.proofs.Common.{◌≡◌, [], ◌∷◌, ◌++◌, refl}
+use Rattle.std.proofs.Common.{◌∷◌, refl}
 use Rattle.map_model.proofs.Keys.{around, IsAround}
 use Rattle.join_core.proofs.ends.first_of_node.Goals as goal
 

@@ -1,4 +1,4 @@
-use Rattle.std.proofs.Common.{◌≡◌, ◌+◌, ◌≤◌, sym, refl, arith}
+use Rattle.std.proofs.Common.{sym, refl}
 use Rattle.map_model.proofs.Lookups.{lookup_left, lookup_middle, lookup_right}
 use Rattle.join_core.proofs.gets.+get_in.Goals as goal
 

@@ -1,4 +1,4 @@
-use Rattle.std.proofs.Common.{◌≡◌, ◌<◌, ◌≤◌, length, sym, ◌∙◌, true, false, arith}
+use Rattle.std.proofs.Common.{sym, ◌∙◌}
 use Rattle.std.proofs.lemmas.Bool.{false_from_ne_true, false≢true}
 use Rattle.map_model.proofs.Splits.{IsIncreasing-set}
 use Rattle.join_core.proofs.Cuts.{cut_found, cut_missed, none_of_absent, place_found, place_any}

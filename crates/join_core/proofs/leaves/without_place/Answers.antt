@@ -1,4 +1,4 @@
-use Rattle.std.proofs.Common.{◌≡◌, ◌+◌, ◌<◌, ◌≤◌, ◌++◌, length, ◌∙◌, arith}
+use Rattle.std.proofs.Common.{◌∙◌}
 use Rattle.map_model.proofs.Splits.{drop_key-split}
 use Rattle.join_core.proofs.Cuts.{cut_found, place_found, closed_rises}
 use Rattle.join_core.proofs.leaves.without_place.Goals as goal

@@ -1,4 +1,4 @@
-use Rattle.std.proofs.Common.{◌≡◌, ◌+◌, ◌<◌, ◌≤◌, ◌*◌, ◌++◌, length, ap, sym, subst, ◌∙◌, arith}
+use Rattle.std.proofs.Common.{◌≡◌, ◌++◌, length, ap, sym, subst, ◌∙◌, arith}
 use Rattle.map_model.specs.Entries.{IsIncreasing}
 use Rattle.map_model.specs.SetOperations.{union}
 use Rattle.map_model.proofs.Lengths.{length-union_le}

@@ -1,4 +1,4 @@
-use Rattle.std.proofs.Common.{◌≡◌, ◌+◌, ◌<◌, ◌≤◌, ◌*◌, ◌∷◌, ◌++◌, length, sym, ap, arith, refl}
+use Rattle.std.proofs.Common.{◌≡◌, length, sym, arith}
 use Rattle.std.specs.declared.cmp.Ordering.TheVariants.{Less}
 use Rattle.map_model.proofs.Keys.{around, lesser, IsIncreasing-around}
 use Rattle.map_model.proofs.Splits.{AllKeys-set}

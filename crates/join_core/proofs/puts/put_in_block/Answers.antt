@@ -1,4 +1,4 @@
-use Rattle.std.proofs.Common.{◌≡◌, ◌+◌, ◌<◌, ◌≤◌, ◌*◌, length, arith}
+use Rattle.std.proofs.Common.{arith}
 use Rattle.map_model.proofs.Splits.{IsIncreasing-set}
 use Rattle.join_core.proofs.Cuts.{set_sizes}
 use Rattle.join_core.proofs.puts.put_in_block.Goals as goal

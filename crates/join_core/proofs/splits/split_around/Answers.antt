@@ -1,4 +1,4 @@
-use Rattle.std.proofs.Common.{◌≡◌, ◌<◌, ◌≤◌, ◌+◌, length, refl, sym, ◌∙◌, arith}
+use Rattle.std.proofs.Common.{refl, sym, ◌∙◌}
 use Rattle.map_model.proofs.Splits.{IsIncreasing-below, IsIncreasing-above}
 use Rattle.join_core.proofs.Cuts.{cut_found, place_found}
 use Rattle.join_core.proofs.splits.split_around.Goals as goal

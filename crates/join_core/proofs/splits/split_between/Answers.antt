@@ -1,4 +1,4 @@
-use Rattle.std.proofs.Common.{◌≡◌, ◌<◌, ◌≤◌, ◌+◌, length, refl, sym, ap, drop, take, ◌∙◌, arith}
+use Rattle.std.proofs.Common.{refl, ap, drop, take, ◌∙◌}
 use Rattle.map_model.proofs.Splits.{IsIncreasing-below, IsIncreasing-above}
 use Rattle.join_core.proofs.Cuts.{cut_missed, place_any}
 use Rattle.join_core.proofs.splits.split_between.Goals as goal

@@ -1,4 +1,4 @@
-use Rattle.std.proofs.Common.{◌≡◌, ◌∷◌, ◌++◌, subst, ap, sym, ◌∙◌}
+use Rattle.std.proofs.Common.{subst}
 use Rattle.map_model.specs.Entries.{IsIncreasing}
 use Rattle.map_model.proofs.Keys.{IsIncreasing-front, around}
 use Rattle.join_core.proofs.Weights.{mirror_whole, mirror_balances, weight-around}

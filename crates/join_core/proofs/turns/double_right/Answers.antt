@@ -1,6 +1,6 @@
-use Rattle.std.proofs.Common.{◌≡◌, ◌∷◌, ◌++◌, subst, ap, sym, ◌∙◌}
+use Rattle.std.proofs.Common.{subst}
 use Rattle.map_model.specs.Entries.{IsIncreasing}
-use Rattle.map_model.proofs.Keys.{IsIncreasing-front, IsIncreasing-back, around}
+use Rattle.map_model.proofs.Keys.{IsIncreasing-front, around}
 use Rattle.join_core.proofs.Weights.{double_whole, double_balances, weight-around}
 use Rattle.join_core.proofs.turns.double_right.Goals as goal
 

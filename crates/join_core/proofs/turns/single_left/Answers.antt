@@ -1,4 +1,4 @@
-use Rattle.std.proofs.Common.{subst, sym, append_assoc}
+use Rattle.std.proofs.Common.{subst, append_assoc}
 use Rattle.map_model.specs.Entries.{IsIncreasing}
 use Rattle.map_model.proofs.Keys.{around}
 use Rattle.join_core.proofs.turns.single_left.Goals as goal
