@@ -8,7 +8,7 @@ use Rattle.std.proofs.lemmas.Bool.{and_right, false≢true, true≢false}
 use Rattle.std.proofs.lemmas.Cmp.{upto, tied_itself}
 use Rattle.std.proofs.lemmas.List.{append-nil}
 use Rattle.std.proofs.lemmas.List.Elements.{filter-append}
-use Rattle.map_model.specs.Entries.{AllKeys, IsIncreasing}
+use Rattle.map_model.specs.Entries.{IsIncreasing}
 use Rattle.map_model.proofs.Keys.{AllKeys-map, AllKeys-all, around}
 use Rattle.map_model.proofs.Filters.{filter-all_keys, filter-no_keys, filter-same_keys}
 use Rattle.aug_query.specs.declared.range.KeyRange.{KeyRange}

@@ -1,9 +1,5 @@
-use Rattle.std.proofs.Common.{◌≡◌, ◌+◌, ◌∷◌, ◌++◌, length, length-append, sym, ap, ap₂, ◌∙◌, arith}
+use Rattle.std.proofs.Common.{◌≡◌, sym, ap, ◌∙◌}
 use Rattle.std.specs.declared.cmp.Ordering.TheVariants.{Less}
-use Rattle.std.proofs.lemmas.Result.{IfOk-weaker}
-use Rattle.std.proofs.lemmas.List.Elements.{filter-append}
-use Rattle.map_model.specs.Entries.{AllBelow, AllAbove}
-use Rattle.map_model.specs.Fold.{aug_filter}
 use Rattle.map_model.proofs.Keys.{AllKeys-filter, around}
 use Rattle.aug_query.proofs.Walks.{filter_sides}
 use Rattle.aug_query.proofs.filter.+filter_part.Goals as goal

@@ -1,7 +1,5 @@
-use Rattle.std.proofs.Common.{◌≡◌, ◌^◌, ◌<◌, length, sym, ap, ◌∙◌, arith}
+use Rattle.std.proofs.Common.{length, sym, ap, ◌∙◌, arith}
 use Rattle.std.proofs.lemmas.Result.{IfOk-weaker}
-use Rattle.map_model.specs.Entries.{IsIncreasing}
-use Rattle.map_model.specs.Fold.{aug_filter}
 use Rattle.map_model.proofs.Keys.{IsIncreasing-filter}
 use Rattle.map_model.proofs.Lengths.{length-filter_le}
 use Rattle.aug_query.proofs.Walks.{filter_whole}

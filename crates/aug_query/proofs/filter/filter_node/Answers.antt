@@ -1,6 +1,3 @@
-use Rattle.std.proofs.Common.{◌≡◌, ◌+◌, ◌∷◌, ◌++◌, length, cond, true, false, sym, ap, ◌∙◌, arith}
-use Rattle.std.proofs.lemmas.Result.{IfOk-weaker}
-use Rattle.map_model.specs.Entries.{IsBefore}
 use Rattle.map_model.proofs.Keys.{IsBefore-around}
 use Rattle.aug_query.proofs.filter.filter_node.Goals as goal
 

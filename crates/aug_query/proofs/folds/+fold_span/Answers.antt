@@ -1,7 +1,7 @@
-use Rattle.std.proofs.Common.{◌≡◌, sym, ap, ap₂, ◌∙◌}
+use Rattle.std.proofs.Common.{sym, ap, ap₂, ◌∙◌}
 use Rattle.std.proofs.lemmas.Result.{IfOk-weaker}
 use Rattle.map_model.specs.Fold.{fold_of}
-use Rattle.aug_query.specs.Within.{within, left_part, right_part}
+use Rattle.aug_query.specs.Within.{within}
 use Rattle.aug_query.proofs.Ranges.{within-whole, within-before, within-after}
 use Rattle.aug_query.proofs.Nodes.{fold_inside}
 use Rattle.aug_query.proofs.folds.+fold_span.Goals as goal

@@ -1,7 +1,6 @@
-use Rattle.std.proofs.Common.{rules, ◌≡◌, ◌+◌, ◌≤◌, length, take, Some, sym, ap, ◌∙◌, arith}
+use Rattle.std.proofs.Common.{rules, ◌≡◌, Some, sym, ap, ◌∙◌}
 use Rattle.std.specs.List.{slice_get}
 use Rattle.map_model.specs.Fold.{fold_of}
-use Rattle.aug_query.specs.Within.{within}
 use Rattle.aug_query.proofs.Walks.{fold_more, within_same, within_ended}
 use Rattle.aug_query.proofs.folds.fold_block.Goals as goal
 

@@ -1,10 +1,9 @@
-use Rattle.std.proofs.Common.{◌≡◌, ◌+◌, ◌^◌, ◌<◌, ◌∷◌, ◌++◌, length, sym, ap, ap₂, ◌∙◌, subst, arith}
+use Rattle.std.proofs.Common.{◌≡◌, ◌∷◌, ◌++◌, sym, ap, ◌∙◌, arith}
 use Rattle.std.proofs.lemmas.Result.{IfOk-weaker}
 use Rattle.std.specs.declared.cmp.Ordering.TheVariants.{Less}
-use Rattle.map_model.specs.Entries.{IsIncreasing, AllBelow, AllAbove}
 use Rattle.map_model.proofs.Keys.{IsIncreasing-filter, AllKeys-filter, around}
 use Rattle.map_model.proofs.Lengths.{length-filter_le}
-use Rattle.aug_query.specs.Within.{in_range, within, left_part, right_part}
+use Rattle.aug_query.specs.Within.{in_range, within}
 use Rattle.aug_query.proofs.Ranges.{within-whole, within-before, within-after, within-inside}
 use Rattle.aug_query.proofs.parts.+keep_span.Goals as goal
 

@@ -1,4 +1,4 @@
-use Rattle.std.proofs.Common.{◌≡◌, ◌+◌, length, length-append, ◌∷◌, sym, ap, ◌∙◌, arith}
+use Rattle.std.proofs.Common.{length, length-append, ◌∷◌, sym, ap, ◌∙◌, arith}
 use Rattle.std.specs.Ordering.{is_lt}
 use Rattle.map_model.specs.Parts.{rank}
 use Rattle.map_model.proofs.Lengths.{length-filter_le}
