@@ -1,4 +1,0 @@
-pub mod Blocks
-pub mod Nodes
-pub mod Ranges
-pub mod Walks

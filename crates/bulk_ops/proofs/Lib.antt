@@ -1,5 +1,0 @@
-pub mod Combinations
-pub mod Removals
-pub mod Filtered
-pub mod Batches
-pub mod Planted

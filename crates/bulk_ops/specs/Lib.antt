@@ -1,5 +1,0 @@
-pub mod Answers
-pub mod Combination
-pub mod Laws
-pub mod Found
-pub mod Batches
