@@ -1,4 +1,4 @@
-use Rattle.std.proofs.Common.{◌≡◌, ◌+◌, ◌≤◌, length, subst, sym, arith}
+use Rattle.std.proofs.Common.{subst, arith}
 use Rattle.map_model.specs.Entries.{IsIncreasing}
 use Rattle.map_model.proofs.Keys.{IsIncreasing-front, around}
 use Rattle.tree_base.proofs.tree.TreeOver.two_blocks.Goals as goal
