@@ -6,10 +6,13 @@
 
 mod cross;
 mod cursor;
+mod entries;
+mod joins;
 mod listing;
 mod map;
 mod seat;
 
 pub use cross::map_crosses;
 pub use cursor::{Cursor, CursorOver};
+pub use joins::{Exposed, ExposedOver, Parts, PartsOver};
 pub use map::{CodedMap, Map, MapOver, PlainMap};
