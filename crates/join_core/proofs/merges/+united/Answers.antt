@@ -35,10 +35,10 @@ pub returns-in_ok-val-in-Some : goal.returns-in_ok-val-in-Some
 returns-in_ok-val-in-Some g t c =
     let order = g.A.Key.Ord.cmp in
     let rising = subst (IsIncreasing order) (rw c.in-Some.is at c.in_ok-expose.ensures.entries) c.size-2.ensures.increasing in
-    rw ((rw c.in-Some.is at c.in_ok-expose.ensures.entries), union-split_first g.met.A.Key.Ord.total g.met.A.Key.Key.exact (g.R.Resolve.resolved c.args.how.now) c.in-Some.sides.left.entries c.in-Some.sides.key c.in-Some.sides.val c.in-Some.sides.right.entries c.args.b.tree.now.entries rising c.size.ensures.increasing)
-    (rw (c.in_ok-lower-in-Some.ensures.entries, c.in_ok-upper-in-Some.ensures.entries, c.in_ok-parts-in-Some.ensures.below, c.in_ok-parts-in-Some.ensures.found, c.in_ok-parts-in-Some.ensures.above, c.in_ok-val-in-Some.ensures) at c.join.ensures.entries)
+    record { entries = rw ((rw c.in-Some.is at c.in_ok-expose.ensures.entries), union-split_first g.met.A.Key.Ord.total g.met.A.Key.Key.exact (g.R.Resolve.resolved c.args.how.now) c.in-Some.sides.left.entries c.in-Some.sides.key c.in-Some.sides.val c.in-Some.sides.right.entries c.args.b.tree.now.entries rising c.size.ensures.increasing)
+    (rw (c.in_ok-lower-in-Some.ensures.entries, c.in_ok-upper-in-Some.ensures.entries, c.in_ok-val-in-Some.ensures, c.in_ok-parts-in-Some.ensures.below, c.in_ok-parts-in-Some.ensures.found, c.in_ok-parts-in-Some.ensures.above) at c.join.ensures.entries) }
 
 pub returns-in-None : goal.returns-in-None
 returns-in-None g t c =
     let none = (rw c.in-None.is at c.in_ok-expose.ensures.none).0 refl in
-    rw (none, nil-union g.met.A.Key.Ord.total g.met.A.Key.Key.exact (g.R.Resolve.resolved c.args.how.now) c.args.b.tree.now.entries c.size.ensures.increasing) c.another_owner-in-None.ensures
+    record { entries = rw (none, nil-union g.met.A.Key.Ord.total g.met.A.Key.Key.exact (g.R.Resolve.resolved c.args.how.now) c.args.b.tree.now.entries c.size.ensures.increasing) c.another_owner-in-None.ensures }
