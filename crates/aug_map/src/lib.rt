@@ -11,6 +11,7 @@ mod entries;
 mod joins;
 mod listing;
 mod map;
+mod queries;
 mod seat;
 
 pub use cross::map_crosses;

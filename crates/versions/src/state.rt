@@ -78,6 +78,7 @@ pub trait SyncState: State<Op: Send + Sync> + Send + Sync {}
 impl<S: State<Op: Send + Sync> + Send + Sync> SyncState for S {}
 
 /// The work of a state that does not fork: `prepare` has done it, and the whole is what came of it.
+/// It is never divided; a half would be the whole again.
 #[derive(Clone, Copy, Debug)]
 pub struct AtOnce;
 
@@ -86,7 +87,7 @@ impl<O: Drop> Divide<O, (), O> for AtOnce {
 
     ghost answers = { λ _ part out. out ≡ part };
 
-    ghost divides = { λ _ _ _ _ _. ⊥ };
+    ghost divides = { λ _ part front _ _. front ≡ part };
 
     ghost extent = { λ _ _. 0 };
 

@@ -1,0 +1,8 @@
+use Rattle.std.proofs.Common.{◌≡◌, ◌+◌, ◌∷◌, ◌++◌, length, cond, true, false, sym, ap, ◌∙◌, arith}
+use Rattle.std.proofs.lemmas.Result.{IfOk-weaker}
+use Rattle.map_model.specs.Entries.{IsBefore}
+use Rattle.map_model.proofs.Keys.{IsBefore-around}
+use Rattle.aug_query.proofs.filter.filter_node.Goals as goal
+
+pub join2-requires : goal.join2-requires
+join2-requires g c = record { before = IsBefore-around g.met.A.Key.Ord.total c.args.front.now.entries c.args.key.now c.args.back.now.entries c.requires.below c.requires.above }
