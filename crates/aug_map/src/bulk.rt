@@ -16,9 +16,11 @@ use std::marker::{Send, Sync};
 use std::thread::Threads;
 use tree_base::BlockSize;
 
-impl<A: SyncAugment, L: Leaf<A::Key, A::Val> + Send + Sync, S: BlockSize + Send + Sync>
-    MapOver<A, L, S>
-{
+impl<A: SyncAugment, L: Leaf<A::Key, A::Val> + Send + Sync, S: BlockSize + Send + Sync> MapOver<
+    A,
+    L,
+    S,
+> {
     /// The map that pairs make, put in order into the empty map, so that a later pair of a key wins.
     pub fn build<R: Threads + Sync, G: Gate>(
         rt: &R,

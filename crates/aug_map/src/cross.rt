@@ -12,10 +12,7 @@ pub fn map_crosses<
     A: SyncAugment,
     L: Leaf<A::Key, A::Val> + Send + Sync,
     S: BlockSize + Send + Sync,
->(
-    map: &MapOver<A, L, S>,
-    cursor: &CursorOver<'_, A, L, S>,
-) {
+>(map: &MapOver<A, L, S>, cursor: &CursorOver<'_, A, L, S>) {
     crosses(map);
     crosses(cursor);
 }

@@ -7,9 +7,9 @@ ghost use Rattle.aug_map.specs.Places.{IsPlace};
 use crate::map::MapOver;
 use crate::seat::{Seat, find_seat};
 use aug_monoid::{Augment, Key, Leaf, NoMemory, Share, Walk};
-use tree_base::{BlockSize, TreeOver, Width};
 use std::alloc::Global;
 use std::marker::Model;
+use tree_base::{BlockSize, TreeOver, Width};
 
 /// A place in a leaf.
 #[derive(Drop)]

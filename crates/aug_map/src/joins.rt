@@ -6,7 +6,6 @@ ghost use Rattle.map_model.specs.SetOperations.{union};
 
 use crate::map::MapOver;
 use aug_monoid::{Augment, Leaf, NoMemory, Resolve, Steps};
-use join_core::{ExposedOver as SidesOver, PartsOver as TreePartsOver};
 use std::alloc::Global;
 use std::sync::ledger::Ledger;
 use tree_base::{BlockSize, Width};
@@ -43,20 +42,15 @@ impl<A: Augment, L: Leaf<A::Key, A::Val>, S: BlockSize> MapOver<A, L, S> {
         ensures balanced { IfOk result (λ parts. IfSome parts (λ p. IsBalanced (weight p.left.entries) (weight p.right.entries))) }
         ensures height { IfOk result (λ parts. IfSome parts (λ p. 2 * S.SIZE < length self.now.entries → self.now.height ≡ max p.left.height p.right.height + 1)) }
     {
-        match join_core::expose(alloc, &self.tree)? {
-            None => Ok(None),
-            Some(SidesOver {
-                left,
-                key,
-                val,
-                right,
-            }) => Ok(Some(ExposedOver {
-                left: MapOver { tree: left },
-                key,
-                val,
-                right: MapOver { tree: right },
-            })),
-        }
+        let Some(sides) = join_core::expose(alloc, &self.tree)? else {
+            return Ok(None);
+        };
+        Ok(Some(ExposedOver {
+            left: MapOver { tree: sides.left },
+            key: sides.key,
+            val: sides.val,
+            right: MapOver { tree: sides.right },
+        }))
     }
 
     /// The map of all entries of a left map, an entry whose key is greater than all theirs, and a right map whose keys are
@@ -89,15 +83,11 @@ impl<A: Augment, L: Leaf<A::Key, A::Val>, S: BlockSize> MapOver<A, L, S> {
         ensures found { IfOk result (λ parts. parts.found ≡ lookup A.Key.cmp self.now.entries key.now) }
         ensures above { IfOk result (λ parts. parts.above.entries ≡ above A.Key.cmp self.now.entries key.now) }
     {
-        let TreePartsOver {
-            below,
-            found,
-            above,
-        } = join_core::split(alloc, &self.tree, key, steps)?;
+        let parts = join_core::split(alloc, &self.tree, key, steps)?;
         Ok(PartsOver {
-            below: MapOver { tree: below },
-            found,
-            above: MapOver { tree: above },
+            below: MapOver { tree: parts.below },
+            found: parts.found,
+            above: MapOver { tree: parts.above },
         })
     }
 

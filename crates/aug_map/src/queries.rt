@@ -85,11 +85,7 @@ impl<A: Augment, L: Leaf<A::Key, A::Val>, S: BlockSize> MapOver<A, L, S> {
     }
 
     /// How many keys are less than `key`, in time linear in the height. It takes no memory.
-    pub fn rank<C: Ledger>(
-        &self,
-        key: &A::Key,
-        steps: &mut Steps<C>,
-    ) -> u64
+    pub fn rank<C: Ledger>(&self, key: &A::Key, steps: &mut Steps<C>) -> u64
         ensures { result ≡ rank A.Key.cmp self.now.entries key.now }
     {
         aug_query::rank(&self.tree, key, steps)
@@ -97,11 +93,7 @@ impl<A: Augment, L: Leaf<A::Key, A::Val>, S: BlockSize> MapOver<A, L, S> {
 
     /// The entry at a place, counted from 0, in time linear in the height; none exactly where there are at most `at` entries. It
     /// takes no memory where the shares of keys and values take none.
-    pub fn select(
-        &self,
-        alloc: Global,
-        at: u64,
-    ) -> Result<Option<(A::Key, A::Val)>, NoMemory>
+    pub fn select(&self, alloc: Global, at: u64) -> Result<Option<(A::Key, A::Val)>, NoMemory>
         ensures value { IfOk result (λ entry. entry ≡ select self.now.entries at) }
         ensures succeeds { A.Key.never_refuses → A.Val.never_refuses → IsOk result }
     {
@@ -151,11 +143,7 @@ impl<A: Augment, L: Leaf<A::Key, A::Val>, S: BlockSize> MapOver<A, L, S> {
     }
 
     /// The map of the entries with keys less than `key`, in time linear in the height.
-    pub fn below(
-        &self,
-        alloc: Global,
-        key: &A::Key,
-    ) -> Result<MapOver<A, L, S>, NoMemory>
+    pub fn below(&self, alloc: Global, key: &A::Key) -> Result<MapOver<A, L, S>, NoMemory>
         ensures { IfOk result (λ map. map.entries ≡ below A.Key.cmp self.now.entries key.now) }
     {
         let tree = aug_query::below(alloc, &self.tree, key)?;
@@ -163,11 +151,7 @@ impl<A: Augment, L: Leaf<A::Key, A::Val>, S: BlockSize> MapOver<A, L, S> {
     }
 
     /// The map of the entries with keys greater than `key`, in time linear in the height.
-    pub fn above(
-        &self,
-        alloc: Global,
-        key: &A::Key,
-    ) -> Result<MapOver<A, L, S>, NoMemory>
+    pub fn above(&self, alloc: Global, key: &A::Key) -> Result<MapOver<A, L, S>, NoMemory>
         ensures { IfOk result (λ map. map.entries ≡ above A.Key.cmp self.now.entries key.now) }
     {
         let tree = aug_query::above(alloc, &self.tree, key)?;
