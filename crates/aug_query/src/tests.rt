@@ -7,7 +7,6 @@ ghost use Rattle.aug_monoid.specs.Totals.{totals_monoid, totals_base_fits};
 
 use crate::*;
 use aug_monoid::{AugTest, NoMemory, Project, Steps, SumMax, Totals};
-use join_core::put;
 use leaf_blocks::PlainLeaf;
 use std::alloc::Global;
 use std::marker::Brand;
@@ -60,20 +59,55 @@ impl Project<SumMax<u64>> for Greatest {
     }
 }
 
-/// What is asked of the map 1,10 3,34 4,40 5,50.
-#[derive(Debug, Drop, PartialEq, Eq)]
-struct Answers {
-    rank: u64,
-    select: (Option<(u64, u64)>, Option<(u64, u64)>),
-    next: Option<(u64, u64)>,
-    prev: (Option<(u64, u64)>, Option<(u64, u64)>),
-    left: Totals,
-    right: Totals,
-    range: Totals,
-    backward: Totals,
-    greatest: u64,
-    sizes: (u64, u64, u64, u64),
+type Entry = Option<(u64, u64)>;
+
+/// The map 1,10 3,34 4,40 5,50.
+fn numbers<S: BlockSize, C: Ledger>(
+    alloc: Global,
+    steps: &mut Steps<C>,
+) -> Result<Numbers<S>, NoMemory>
+    requires { IsBlockSize S.SIZE }
+{
+    TreeOver::from_increasing(alloc, &[(1, 10), (3, 34), (4, 40), (5, 50)], steps)
 }
+
+fn places<S: BlockSize, C: Ledger>(
+    alloc: Global,
+    tree: &Numbers<S>,
+    steps: &mut Steps<C>,
+) -> Result<(u64, Entry, Entry, Entry), NoMemory> {
+    let at = rank(tree, &4, steps);
+    let placed = select(alloc, tree, 3)?;
+    let behind = next(alloc, tree, &3, steps)?;
+    let before = prev(alloc, tree, &1, steps)?;
+    Ok((at, placed, behind, before))
+}
+
+fn folds<S: BlockSize, C: Ledger>(
+    alloc: Global,
+    tree: &Numbers<S>,
+    steps: &mut Steps<C>,
+) -> Result<(Totals, Totals, Totals, u64), NoMemory> {
+    let left = aug_left(alloc, tree, &3, steps)?;
+    let right = aug_right(alloc, tree, &4, steps)?;
+    let range = aug_range(alloc, tree, &2, &4, steps)?;
+    let greatest = aug_project(alloc, tree, &2, &4, &Greatest)?;
+    Ok((left, right, range, greatest))
+}
+
+fn sizes<S: BlockSize>(alloc: Global, tree: &Numbers<S>) -> Result<(u64, u64, u64, u64), NoMemory> {
+    let passing = aug_filter(alloc, tree, &AtLeast { bound: 40 })?.size();
+    let lower = below(alloc, tree, &4)?.size();
+    let upper = above(alloc, tree, &4)?.size();
+    let middle = slice(alloc, tree, &3, &4)?.size();
+    Ok((passing, lower, upper, middle))
+}
+
+type Answers = (
+    (u64, Entry, Entry, Entry),
+    (Totals, Totals, Totals, u64),
+    (u64, u64, u64, u64),
+);
 
 fn counted<S: BlockSize, C: Ledger>(alloc: Global, blank: Blank) -> Result<Answers, NoMemory>
     requires size { IsBlockSize S.SIZE }
@@ -82,30 +116,10 @@ fn counted<S: BlockSize, C: Ledger>(alloc: Global, blank: Blank) -> Result<Answe
     requires some { 0 < blank.parts }
 {
     let mut steps = Steps::<C>::start(blank);
-    let mut tree: Numbers<S> = TreeOver::empty();
-    for (key, val) in [(3, 34), (5, 50), (1, 10), (4, 40)] {
-        tree = put(alloc, &tree, key, val, &mut steps)?;
-    }
-    let first = select(alloc, &tree, 3)?;
-    let second = select(alloc, &tree, 4)?;
-    let low = prev(alloc, &tree, &1, &mut steps)?;
-    let high = prev(alloc, &tree, &9, &mut steps)?;
-    let passing = aug_filter(alloc, &tree, &AtLeast { bound: 40 })?;
-    let lower = below(alloc, &tree, &4)?;
-    let upper = above(alloc, &tree, &4)?;
-    let middle = slice(alloc, &tree, &3, &4)?;
-    Ok(Answers {
-        rank: rank(&tree, &4, &mut steps),
-        select: (first, second),
-        next: next(alloc, &tree, &3, &mut steps)?,
-        prev: (low, high),
-        left: aug_left(alloc, &tree, &3, &mut steps)?,
-        right: aug_right(alloc, &tree, &4, &mut steps)?,
-        range: aug_range(alloc, &tree, &2, &4, &mut steps)?,
-        backward: aug_range(alloc, &tree, &4, &2, &mut steps)?,
-        greatest: aug_project(alloc, &tree, &2, &4, &Greatest)?,
-        sizes: (passing.size(), lower.size(), upper.size(), middle.size()),
-    })
+    let tree = numbers::<S, C>(alloc, &mut steps)?;
+    let entries = places(alloc, &tree, &mut steps)?;
+    let values = folds(alloc, &tree, &mut steps)?;
+    Ok((entries, values, sizes(alloc, &tree)?))
 }
 
 fn asked<S: BlockSize>(alloc: Global) -> Result<Answers, NoMemory>
@@ -121,18 +135,11 @@ fn totals(sum: u64, greatest: u64) -> Totals {
 #[test]
 fn questions_to_four_entries(rt: HostRuntime) -> Result<(), NoMemory> {
     let alloc = rt.alloc();
-    let want = Answers {
-        rank: 2,
-        select: (Some((5, 50)), None),
-        next: Some((4, 40)),
-        prev: (None, Some((5, 50))),
-        left: totals(44, 34),
-        right: totals(90, 50),
-        range: totals(74, 40),
-        backward: totals(0, 0),
-        greatest: 40,
-        sizes: (2, 2, 1, 2),
-    };
+    let want = (
+        (2, Some((5, 50)), Some((4, 40)), None),
+        (totals(44, 34), totals(90, 50), totals(74, 40), 40),
+        (2, 2, 1, 2),
+    );
     assert_eq!(rt; asked::<Width<1>>(alloc)?, want);
     assert_eq!(rt; asked::<Width<2>>(alloc)?, want);
     assert_eq!(rt; asked::<Width<32>>(alloc)?, want);
