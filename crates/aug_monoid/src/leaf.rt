@@ -34,6 +34,7 @@ pub trait Leaf<K: Key, V: Share>: Drop {
 
     ghost FIND: { ℕ };
 
+    /// The entries in the order of their keys.
     ghost entries: { Self → List (K × V) };
 
     ghost use Rattle.aug_monoid.specs.declared.leaf.Walk.{Walk};
@@ -41,6 +42,7 @@ pub trait Leaf<K: Key, V: Share>: Drop {
     /// That a walk is a place in a leaf.
     ghost fits_walk: { Self → Walk → Type 0 };
 
+    /// The leaf of entries whose keys rise, at most 512 of them, in time linear in their size.
     fn from_entries(alloc: Global, from: &[(K, V)]) -> Result<Self, NoMemory>
     where
         Self: Sized,
@@ -48,22 +50,30 @@ pub trait Leaf<K: Key, V: Share>: Drop {
         requires short { length from.now ≤ 512 }
         ensures { IfOk result (λ leaf. entries leaf ≡ from.now) };
 
+    /// The number of entries.
     fn len(&self) -> u64
         ensures { result ≡ length (entries self.now) };
 
+    /// The entry at a place, counted from 0; none at a place past the last. It takes no memory where the shares of keys and
+    /// values take none.
     fn get_at(&self, alloc: Global, at: u64) -> Result<Option<(K, V)>, NoMemory>
         ensures value { IfOk result (λ entry. entry ≡ slice_get (entries self.now) at) }
         ensures succeeds { K.never_refuses → V.never_refuses → IsOk result };
 
+    /// The place of a key: the number of entries with smaller keys, and whether the entry there has the key. It takes no
+    /// memory, and at most `FIND` comparisons in a leaf of at most 256 entries.
     fn seek<C: Ledger>(&self, key: &K, steps: &mut Steps<C>) -> Seek
         ensures at { result.at ≡ length (below K.cmp (entries self.now) key.now) }
         ensures hit { IsTrue result.hit ↔ IsSome (lookup K.cmp (entries self.now) key.now) }
         ensures within { length (entries self.now) ≤ 256 → steps.new ≤ steps.old + FIND };
 
+    /// A walk that stands before the first entry.
     fn walk(&self) -> Walk
         ensures fits { fits_walk self.now result }
         ensures first { result.index ≡ 0 };
 
+    /// The entry that a walk stands before; the walk then stands behind it. At the end there is none, and the walk stays, as it
+    /// does after a refusal. A whole walk takes time linear in the leaf's size.
     fn walk_next(&self, alloc: Global, walk: &mut Walk) -> Result<Option<(K, V)>, NoMemory>
         requires { fits_walk self.now walk.old }
         ensures value { IfOk result (λ entry. entry ≡ slice_get (entries self.now) walk.old.index) }
@@ -73,6 +83,7 @@ pub trait Leaf<K: Key, V: Share>: Drop {
         ensures fits { fits_walk self.now walk.new }
         ensures succeeds { K.never_refuses → V.never_refuses → IsOk result };
 
+    /// The leaves of the entries before a place and of those from it on.
     fn cut_at(&self, alloc: Global, at: u64) -> Result<(Self, Self), NoMemory>
     where
         Self: Sized,
@@ -80,6 +91,7 @@ pub trait Leaf<K: Key, V: Share>: Drop {
         ensures front { IfOk result (λ parts. entries parts.0 ≡ take at (entries self.now)) }
         ensures back { IfOk result (λ parts. entries parts.1 ≡ drop at (entries self.now)) };
 
+    /// The leaf of this leaf's entries, an entry with a greater key, and those of a leaf whose keys are greater still.
     fn concat3(&self, alloc: Global, key: K, val: V, right: &Self) -> Result<Self, NoMemory>
     where
         Self: Sized,

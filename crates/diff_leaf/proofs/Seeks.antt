@@ -10,7 +10,7 @@ use Rattle.std.proofs.lemmas.Cmp.{nat_cmp_total}
 use Rattle.std.proofs.lemmas.List.{drop_all}
 use Rattle.std.proofs.lemmas.Option.{slice_get_within, get_or_from_slice_get}
 use Rattle.map_model.specs.Entries.{AllKeys, IsIncreasing, below, lookup}
-use Rattle.diff_leaf.proofs.MorePlaces.{take_less_too, drop_more, place_above, absent_here, place_of_hit, hit_here}
+use Rattle.map_model.proofs.Seeks.{take_less_too, drop_more, place_above, absent_here, place_of_hit, hit_here}
 use Rattle.diff_leaf.proofs.Codes.{is_less}
 
 same : (a b : ℕ) → a ≡ b → nat_cmp a b ≡ Equal

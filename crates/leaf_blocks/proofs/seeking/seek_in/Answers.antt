@@ -1,7 +1,8 @@
 use Rattle.std.proofs.Common.{◌≡◌, ◌+◌, ◌-◌, ◌/◌, refl, sym, ap, ◌∙◌, arith}
 use Rattle.std.specs.Ordering.{is_le}
 use Rattle.std.proofs.lemmas.Bool.{false≢true}
-use Rattle.leaf_blocks.proofs.Halves.{seeking_up, seeking_down, not_le, at_less, absent_less, at_equal, found_equal, at_greater, absent_greater}
+use Rattle.map_model.proofs.Seeks.{not_le}
+use Rattle.leaf_blocks.proofs.Halves.{seeking_up, seeking_down, at_less, absent_less, at_equal, found_equal, at_greater, absent_greater}
 use Rattle.leaf_blocks.proofs.seeking.seek_in.Goals as goal
 use Rattle.leaf_blocks.proofs.seeking.seek_in.Goals.{then-is_le, else-is_le}
 

@@ -1,16 +1,17 @@
 -- The place of a key in a list whose keys rise, from what is before it and from it on.
 use Rattle.std.proofs.Common.{◌≡◌, ℕ, zero, suc, ◌<◌, ◌≤◌, true, false, cond, List, [], ◌∷◌, ◌++◌, length, take, drop, get_or, Some, is_some, refl, sym, ap, ◌∙◌, subst, arith, take-append-drop, append-nil}
 use Rattle.std.specs.declared.cmp.Ordering.{Ordering}
-use Rattle.std.specs.declared.cmp.Ordering.TheVariants.{Less, Equal}
-use Rattle.std.specs.Ordering.{is_eq, is_lt}
+use Rattle.std.specs.declared.cmp.Ordering.TheVariants.{Less, Equal, Greater}
+use Rattle.std.specs.Ordering.{is_eq, is_lt, is_le}
 use Rattle.std.specs.Cmp.{IsTotalOrder}
 use Rattle.std.specs.Option.{option_or}
+use Rattle.std.proofs.lemmas.Bool.{false≢true}
 use Rattle.std.proofs.lemmas.Cmp.{alike_right}
 use Rattle.std.proofs.lemmas.List.{length-take-le}
 use Rattle.std.proofs.lemmas.List.Elements.{filter-append}
 use Rattle.map_model.specs.Entries.{AllAbove, AllBelow, AllKeys, IsIncreasing, below, lookup}
 use Rattle.map_model.proofs.Filters.{filter-all_keys, filter-no_keys}
-use Rattle.map_model.proofs.Keys.{AllKeys-map, below_all, greater}
+use Rattle.map_model.proofs.Keys.{AllKeys-map, below_all, greater, lesser}
 use Rattle.map_model.proofs.Lookups.{lookup-append, lookup-all_less, lookup-all_greater}
 
 AllKeys-at : {K V : Type 0} (P : K → Type 0) (es : List (K × V)) (i : ℕ) (e : K × V) → i < length es → e ≡ get_or es i e → AllKeys P es → P e.0
@@ -23,6 +24,33 @@ AllKeys-drop P [] zero a = a
 AllKeys-drop P [] (suc i) a = a
 AllKeys-drop P (x ∷ es) zero a = a
 AllKeys-drop P (x ∷ es) (suc i) a = AllKeys-drop P es i a.1
+
+module _ {K : Type 0} {order : K → K → Ordering} (total : IsTotalOrder order) (q : K) where
+  -- a key below one that is not above q
+  pub below_le : (x e : K) → order x e ≡ Less → is_le (order e q) ≡ true → order x q ≡ Less
+  below_le x e less le =
+      elim (order e q) as (λ o. order e q ≡ o → is_le o ≡ true → order x q ≡ Less) [
+        | Less ↦ λ is _. total.trans x e q less is
+        | Equal ↦ λ is _. sym (alike_right total e q x is) ∙ less
+        | Greater ↦ λ _ h. absurd (false≢true h)
+      ] refl le
+
+  pub not_le : (e : K) → is_le (order e q) ≡ false → order q e ≡ Less
+  not_le e above =
+      elim (order e q) as (λ o. order e q ≡ o → is_le o ≡ false → order q e ≡ Less) [
+        | Less ↦ λ _ h. absurd (false≢true (sym h))
+        | Equal ↦ λ _ h. absurd (false≢true (sym h))
+        | Greater ↦ λ is _. lesser total e q is
+      ] refl above
+
+module _ {K V : Type 0} {order : K → K → Ordering} (total : IsTotalOrder order) (q : K) where
+  -- the keys before one that is not above q
+  pub take_less : (es : List (K × V)) (i : ℕ) (e : K × V) → IsIncreasing order es → i < length es → e ≡ get_or es i e → is_le (order e.0 q) ≡ true → AllBelow order (take i es) q
+  take_less [] zero e s h is le = tt
+  take_less [] (suc i) e s h is le = tt
+  take_less (x ∷ es) zero e s h is le = tt
+  take_less (x ∷ es) (suc i) e s h is le =
+      (below_le total q x.0 e.0 (AllKeys-at (λ k. order x.0 k ≡ Less) es i e (omega arith) is s.0) le, take_less es i e s.1 (omega arith) is le)
 
 module _ {K V : Type 0} {order : K → K → Ordering} (total : IsTotalOrder order) (q : K) where
   -- one key more before a place, which is below q

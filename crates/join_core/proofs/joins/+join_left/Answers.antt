@@ -1,0 +1,42 @@
+use Rattle.std.proofs.Common.{rules, ◌+◌, ◌<◌, ◌≤◌, ◌*◌, ◌∷◌, ◌++◌, length, subst, arith}
+use Rattle.std.proofs.lemmas.Bool.{iff_false}
+use Rattle.map_model.specs.Entries.{IsIncreasing}
+use Rattle.map_model.proofs.Keys.{IsIncreasing-front}
+use Rattle.map_model.specs.Balance.{weight}
+use Rattle.map_model.proofs.Cuts.{regroup}
+use Rattle.map_model.proofs.Cuts.{weight-around}
+use Rattle.join_core.proofs.Weights.{mirror_not_too_light, mirror_not_too_heavy}
+use Rattle.join_core.proofs.joins.+join_left.Goals as goal
+
+pub join_left-requires : goal.join_left-requires
+join_left-requires g t c κs within =
+    let whole = subst (IsIncreasing g.A.Key.Ord.cmp) (regroup c.args.left.tree.now.entries _ _ _ _) (rw c.in-Node.ensures.top.entries_are at c.requires.increasing) in
+    let increasing : IsIncreasing g.A.Key.Ord.cmp (c.args.left.tree.now.entries ++ (c.args.key, c.args.val) ∷ c.in-Node.near.now.entries) = IsIncreasing-front g.A.Key.Ord.cmp _ _ whole in
+    let not_here = iff_false c.link_here.ensures c.if-link_here.false in
+    let right = weight-around _ _ _ _ c.in-Node.ensures.top.entries_are in
+    let not_lighter : weight c.args.left.tree.now.entries ≤ 3 * weight c.in-Node.near.now.entries = omega (arith, not_here, c.weight_of.ensures.value, c.weight_of-else-are_small.ensures.value, right, c.in-Node.ensures.top.balanced.1) in
+    let shorter : length c.in-Node.near.now.entries < length c.args.right.tree.now.entries = omega (arith, right) in
+    search rules
+
+pub repair_left-requires-clause-increasing : goal.repair_left-requires-clause-increasing
+repair_left-requires-clause-increasing g t c =
+    let whole = subst (IsIncreasing g.A.Key.Ord.cmp) (regroup c.args.left.tree.now.entries _ _ _ _) (rw c.in-Node.ensures.top.entries_are at c.requires.increasing) in
+    rw (c.in_ok-near.ensures.entries, c.in_ok-outer_key.ensures.value, c.in_ok-outer_val.ensures.value) whole
+
+pub repair_left-requires-clause-not_too_light : goal.repair_left-requires-clause-not_too_light
+repair_left-requires-clause-not_too_light g t c =
+    let not_here = iff_false c.link_here.ensures c.if-link_here.false in
+    let right = weight-around _ _ _ _ c.in-Node.ensures.top.entries_are in
+    let near = weight-around _ _ _ _ c.in_ok-near.ensures.entries in
+    let down : 3 * weight c.args.left.tree.now.entries < weight c.in-Node.near.now.entries + weight c.in-Node.outer.now.entries = omega (arith, not_here, c.weight_of.ensures.value, c.weight_of-else-are_small.ensures.value, right) in
+    rw near (mirror_not_too_light _ _ _ c.in-Node.ensures.top.balanced down)
+
+pub repair_left-requires-clause-not_too_heavy : goal.repair_left-requires-clause-not_too_heavy
+repair_left-requires-clause-not_too_heavy g t c =
+    let near = weight-around _ _ _ _ c.in_ok-near.ensures.entries in
+    rw near (mirror_not_too_heavy _ _ _ c.in-Node.ensures.top.balanced)
+
+pub returns-clause-entries : goal.returns-clause-entries
+returns-clause-entries g t c =
+    rw (c.in-Node.ensures.top.entries_are, regroup c.args.left.tree.now.entries (c.args.key, c.args.val) c.in-Node.near.now.entries (c.in-Node.outer_key.now, c.in-Node.outer_val.now) c.in-Node.outer.now.entries)
+    (rw (c.in_ok-near.ensures.entries, c.in_ok-outer_key.ensures.value, c.in_ok-outer_val.ensures.value) at c.repair_left.ensures.entries)

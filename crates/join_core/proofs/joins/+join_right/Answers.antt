@@ -1,0 +1,36 @@
+use Rattle.std.proofs.Common.{rules, ◌+◌, ◌<◌, ◌≤◌, ◌*◌, ◌∷◌, ◌++◌, length, subst, append_assoc, arith}
+use Rattle.std.proofs.lemmas.Bool.{iff_false}
+use Rattle.map_model.specs.Entries.{IsIncreasing}
+use Rattle.map_model.proofs.Keys.{around}
+use Rattle.map_model.specs.Balance.{weight}
+use Rattle.map_model.proofs.Cuts.{weight-around}
+use Rattle.join_core.proofs.Weights.{far_not_too_light, far_not_too_heavy}
+use Rattle.join_core.proofs.joins.+join_right.Goals as goal
+
+pub join_right-requires : goal.join_right-requires
+join_right-requires g t c κs within =
+    let whole = subst (IsIncreasing g.A.Key.Ord.cmp) (append_assoc c.in-Node.outer.now.entries _ _) (rw c.in-Node.ensures.top.entries_are at c.requires.increasing) in
+    let increasing : IsIncreasing g.A.Key.Ord.cmp (c.in-Node.near.now.entries ++ (c.args.key, c.args.val) ∷ c.args.right.tree.now.entries) = (around _ _ _ _ _ whole).right in
+    let not_here = iff_false c.link_here.ensures c.if-link_here.false in
+    let left = weight-around _ _ _ _ c.in-Node.ensures.top.entries_are in
+    let not_lighter : weight c.args.right.tree.now.entries ≤ 3 * weight c.in-Node.near.now.entries = omega (arith, not_here, c.weight_of.ensures.value, c.weight_of-else-are_small.ensures.value, left, c.in-Node.ensures.top.balanced.0) in
+    let shorter : length c.in-Node.near.now.entries < length c.args.left.tree.now.entries = omega (arith, left) in
+    search rules
+
+pub repair_right-requires-clause-increasing : goal.repair_right-requires-clause-increasing
+repair_right-requires-clause-increasing g t c =
+    let whole = subst (IsIncreasing g.A.Key.Ord.cmp) (append_assoc c.in-Node.outer.now.entries _ _) (rw c.in-Node.ensures.top.entries_are at c.requires.increasing) in
+    rw (c.in_ok-near.ensures.entries, c.in_ok-outer_key.ensures.value, c.in_ok-outer_val.ensures.value) whole
+
+pub repair_right-requires-clause-not_too_light : goal.repair_right-requires-clause-not_too_light
+repair_right-requires-clause-not_too_light g t c =
+    let not_here = iff_false c.link_here.ensures c.if-link_here.false in
+    let left = weight-around _ _ _ _ c.in-Node.ensures.top.entries_are in
+    let near = weight-around _ _ _ _ c.in_ok-near.ensures.entries in
+    let down : 3 * weight c.args.right.tree.now.entries < weight c.in-Node.outer.now.entries + weight c.in-Node.near.now.entries = omega (arith, not_here, c.weight_of.ensures.value, c.weight_of-else-are_small.ensures.value, left) in
+    rw near (far_not_too_light _ _ _ c.in-Node.ensures.top.balanced down)
+
+pub repair_right-requires-clause-not_too_heavy : goal.repair_right-requires-clause-not_too_heavy
+repair_right-requires-clause-not_too_heavy g t c =
+    let near = weight-around _ _ _ _ c.in_ok-near.ensures.entries in
+    rw near (far_not_too_heavy _ _ _ c.in-Node.ensures.top.balanced)

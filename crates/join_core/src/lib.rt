@@ -1,0 +1,16 @@
+//! Join: one call puts two persistent maps and an entry between them together, and all other changes of maps stand on it.
+//!
+//! A map is a `Tree` of `tree_base`. No call changes its arguments: each answer shares what it can with them. A call refuses
+//! only for want of memory. Trees stay weight-balanced with the parameter 1/4, as in just-join trees: the heavy side is opened
+//! down to a part that the light side balances, linked there, and turned on the way up.
+#![tactic(auto)]
+
+mod ends;
+mod joins;
+mod owners;
+mod sizes;
+mod turns;
+
+pub use ends::join2;
+pub use joins::join;
+pub use owners::{Part, another_owner};

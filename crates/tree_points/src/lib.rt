@@ -1,0 +1,14 @@
+//! Look-ups and changes of single keys in persistent maps.
+//!
+//! A map is a `Tree` of `tree_base`. A change copies the path to its key and one block, and shares the rest with its argument.
+//! A call refuses only for want of memory.
+#![tactic(auto)]
+
+mod dels;
+mod gets;
+mod leaves;
+mod puts;
+
+pub use dels::del;
+pub use gets::get;
+pub use puts::{put, single};

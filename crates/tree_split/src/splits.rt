@@ -1,0 +1,220 @@
+//! A map split at a key.
+ghost use Rattle.std.specs.Prelude.{◌≡◌, ◌+◌, ◌*◌, ◌≤◌, ◌∷◌, ◌++◌, IfOk, IsSome, None, Some, length};
+ghost use Rattle.map_model.specs.Balance.{IsBlockSize};
+ghost use Rattle.map_model.specs.Entries.{AllAbove, AllBelow, IsIncreasing, above, below, lookup};
+
+use aug_monoid::{Augment, Key, Leaf, NoMemory, Share, Steps};
+use join_core::{Part, join};
+use std::alloc::Global;
+use std::cmp::Ordering;
+use std::sync::ledger::Ledger;
+use tree_base::{Around, BlockSize, LookOver, TreeOver, Width, cut_around};
+
+/// The entries below a key, the value at it, and the entries above it.
+pub type Parts<A, L, const B: usize> = PartsOver<A, L, Width<B>>;
+
+/// The entries below a key, the value at it, and the entries above it.
+#[derive(Drop)]
+pub struct PartsOver<A: Augment, L: Leaf<A::Key, A::Val>, S: BlockSize> {
+    pub below: TreeOver<A, L, S>,
+    pub found: Option<A::Val>,
+    pub above: TreeOver<A, L, S>,
+}
+
+/// A block split around the entry of a key, which stands at a place.
+fn split_around<A: Augment, L: Leaf<A::Key, A::Val>, S: BlockSize, C: Ledger>(
+    alloc: Global,
+    leaf: &L,
+    at: u64,
+    key: &A::Key,
+    steps: &mut Steps<C>,
+) -> Result<PartsOver<A, L, S>, NoMemory>
+    requires block_size { IsBlockSize S.SIZE }
+    requires increasing { IsIncreasing A.Key.cmp (L.entries leaf.now) }
+    requires short { length (L.entries leaf.now) ≤ 2 * S.SIZE }
+    requires place { at ≡ length (below A.Key.cmp (L.entries leaf.now) key.now) }
+    requires hit { IsSome (lookup A.Key.cmp (L.entries leaf.now) key.now) }
+    ensures below { IfOk result (λ parts. parts.below.entries ≡ below A.Key.cmp (L.entries leaf.now) key.now) }
+    ensures found { IfOk result (λ parts. parts.found ≡ lookup A.Key.cmp (L.entries leaf.now) key.now) }
+    ensures above { IfOk result (λ parts. parts.above.entries ≡ above A.Key.cmp (L.entries leaf.now) key.now) }
+{
+    let around = cut_around(alloc, leaf, at)?;
+    let lower = TreeOver::from_leaf(alloc, around.front, steps)?;
+    let higher = TreeOver::from_leaf(alloc, around.back, steps)?;
+    Ok(PartsOver {
+        below: lower,
+        found: Some(around.val),
+        above: higher,
+    })
+}
+
+/// A block split at a place where a key would stand.
+fn split_between<A: Augment, L: Leaf<A::Key, A::Val>, S: BlockSize, C: Ledger>(
+    alloc: Global,
+    leaf: &L,
+    at: u64,
+    key: &A::Key,
+    steps: &mut Steps<C>,
+) -> Result<PartsOver<A, L, S>, NoMemory>
+    requires block_size { IsBlockSize S.SIZE }
+    requires increasing { IsIncreasing A.Key.cmp (L.entries leaf.now) }
+    requires short { length (L.entries leaf.now) ≤ 2 * S.SIZE }
+    requires place { at ≡ length (below A.Key.cmp (L.entries leaf.now) key.now) }
+    requires missed { lookup A.Key.cmp (L.entries leaf.now) key.now ≡ None }
+    ensures below { IfOk result (λ parts. parts.below.entries ≡ below A.Key.cmp (L.entries leaf.now) key.now) }
+    ensures found { IfOk result (λ parts. parts.found ≡ None) }
+    ensures above { IfOk result (λ parts. parts.above.entries ≡ above A.Key.cmp (L.entries leaf.now) key.now) }
+{
+    let (front, back) = leaf.cut_at(alloc, at)?;
+    let lower = TreeOver::from_leaf(alloc, front, steps)?;
+    let higher = TreeOver::from_leaf(alloc, back, steps)?;
+    Ok(PartsOver {
+        below: lower,
+        found: None,
+        above: higher,
+    })
+}
+
+/// A block split at a key.
+fn split_block<A: Augment, L: Leaf<A::Key, A::Val>, S: BlockSize, C: Ledger>(
+    alloc: Global,
+    leaf: &L,
+    key: &A::Key,
+    steps: &mut Steps<C>,
+) -> Result<PartsOver<A, L, S>, NoMemory>
+    requires block_size { IsBlockSize S.SIZE }
+    requires increasing { IsIncreasing A.Key.cmp (L.entries leaf.now) }
+    requires short { length (L.entries leaf.now) ≤ 2 * S.SIZE }
+    ensures below { IfOk result (λ parts. parts.below.entries ≡ below A.Key.cmp (L.entries leaf.now) key.now) }
+    ensures found { IfOk result (λ parts. parts.found ≡ lookup A.Key.cmp (L.entries leaf.now) key.now) }
+    ensures above { IfOk result (λ parts. parts.above.entries ≡ above A.Key.cmp (L.entries leaf.now) key.now) }
+{
+    let place = leaf.seek(key, steps);
+    if place.hit {
+        split_around(alloc, leaf, place.at, key, steps)
+    } else {
+        split_between(alloc, leaf, place.at, key, steps)
+    }
+}
+
+/// The parts of a node's left side, with the node's entry and right side above.
+fn extend_above<A: Augment, L: Leaf<A::Key, A::Val>, S: BlockSize, C: Ledger>(
+    alloc: Global,
+    parts: PartsOver<A, L, S>,
+    key: A::Key,
+    val: A::Val,
+    right: &TreeOver<A, L, S>,
+    steps: &mut Steps<C>,
+) -> Result<PartsOver<A, L, S>, NoMemory>
+    requires lower { AllBelow A.Key.cmp parts.above.entries key }
+    requires upper { AllAbove A.Key.cmp right.now.entries key }
+    ensures below { IfOk result (λ new. new.below.entries ≡ parts.below.entries) }
+    ensures found { IfOk result (λ new. new.found ≡ parts.found) }
+    ensures above { IfOk result (λ new. new.above.entries ≡ parts.above.entries ++ (key, val) ∷ right.now.entries) }
+{
+    let higher = join(alloc, &parts.above, key, val, right, steps)?;
+    Ok(PartsOver {
+        below: parts.below,
+        found: parts.found,
+        above: higher,
+    })
+}
+
+/// The parts of a node's right side, with the node's left side and entry below.
+fn extend_below<A: Augment, L: Leaf<A::Key, A::Val>, S: BlockSize, C: Ledger>(
+    alloc: Global,
+    left: &TreeOver<A, L, S>,
+    key: A::Key,
+    val: A::Val,
+    parts: PartsOver<A, L, S>,
+    steps: &mut Steps<C>,
+) -> Result<PartsOver<A, L, S>, NoMemory>
+    requires lower { AllBelow A.Key.cmp left.now.entries key }
+    requires upper { AllAbove A.Key.cmp parts.below.entries key }
+    ensures below { IfOk result (λ new. new.below.entries ≡ left.now.entries ++ (key, val) ∷ parts.below.entries) }
+    ensures found { IfOk result (λ new. new.found ≡ parts.found) }
+    ensures above { IfOk result (λ new. new.above.entries ≡ parts.above.entries) }
+{
+    let lower = join(alloc, left, key, val, &parts.below, steps)?;
+    Ok(PartsOver {
+        below: lower,
+        found: parts.found,
+        above: parts.above,
+    })
+}
+
+/// The sides of a node, split at the node's own key.
+fn parts_of_sides<A: Augment, L: Leaf<A::Key, A::Val>, S: BlockSize>(
+    alloc: Global,
+    left: &TreeOver<A, L, S>,
+    val: &A::Val,
+    right: &TreeOver<A, L, S>,
+) -> Result<PartsOver<A, L, S>, NoMemory>
+    ensures below { IfOk result (λ parts. parts.below.entries ≡ left.now.entries) }
+    ensures found { IfOk result (λ parts. parts.found ≡ Some val.now) }
+    ensures above { IfOk result (λ parts. parts.above.entries ≡ right.now.entries) }
+{
+    let lower = left.share(alloc)?;
+    let found = val.share(alloc)?;
+    let higher = right.share(alloc)?;
+    Ok(PartsOver {
+        below: lower,
+        found: Some(found),
+        above: higher,
+    })
+}
+
+/// The entries below a key, the value at it, and the entries above it, in time linear in the height. It shares what lies off
+/// the key's path with `tree`.
+pub fn split<A: Augment, L: Leaf<A::Key, A::Val>, S: BlockSize, C: Ledger>(
+    alloc: Global,
+    tree: &TreeOver<A, L, S>,
+    key: &A::Key,
+    steps: &mut Steps<C>,
+) -> Result<PartsOver<A, L, S>, NoMemory>
+    ensures below { IfOk result (λ parts. parts.below.entries ≡ below A.Key.cmp tree.now.entries key.now) }
+    ensures found { IfOk result (λ parts. parts.found ≡ lookup A.Key.cmp tree.now.entries key.now) }
+    ensures above { IfOk result (λ parts. parts.above.entries ≡ above A.Key.cmp tree.now.entries key.now) }
+{
+    split_in(alloc, Part { tree }, key, steps)
+}
+
+fn split_in<A: Augment, L: Leaf<A::Key, A::Val>, S: BlockSize, C: Ledger>(
+    alloc: Global,
+    part: Part<'_, A, L, S>,
+    key: &A::Key,
+    steps: &mut Steps<C>,
+) -> Result<PartsOver<A, L, S>, NoMemory>
+    ensures below { IfOk result (λ parts. parts.below.entries ≡ below A.Key.cmp part.entry.tree.now.entries key.now) }
+    ensures found { IfOk result (λ parts. parts.found ≡ lookup A.Key.cmp part.entry.tree.now.entries key.now) }
+    ensures above { IfOk result (λ parts. parts.above.entries ≡ above A.Key.cmp part.entry.tree.now.entries key.now) }
+{
+    match part.tree.look() {
+        LookOver::Empty => Ok(PartsOver {
+            below: TreeOver::empty(),
+            found: None,
+            above: TreeOver::empty(),
+        }),
+        LookOver::Block { leaf } => split_block(alloc, leaf, key, steps),
+        LookOver::Node {
+            left,
+            key: node_key,
+            val: node_val,
+            right,
+        } => match key.order(node_key, steps) {
+            Ordering::Less => {
+                let parts = split_in(alloc, Part { tree: left }, key, steps)?;
+                let node_key = node_key.share(alloc)?;
+                let node_val = node_val.share(alloc)?;
+                extend_above(alloc, parts, node_key, node_val, right, steps)
+            }
+            Ordering::Equal => parts_of_sides(alloc, left, node_val, right),
+            Ordering::Greater => {
+                let parts = split_in(alloc, Part { tree: right }, key, steps)?;
+                let node_key = node_key.share(alloc)?;
+                let node_val = node_val.share(alloc)?;
+                extend_below(alloc, left, node_key, node_val, parts, steps)
+            }
+        },
+    }
+}
