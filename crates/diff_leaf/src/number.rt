@@ -1,13 +1,15 @@
 //! Numbers as LEB128 bytes: seven bits a byte, the low ones first, in the shortest form.
-ghost use Rattle.std.specs.Prelude.{◌≡◌, ◌+◌, ◌<◌, ◌^◌, [], ◌∷◌, ◌++◌, length, drop, OnOk};
+ghost use Rattle.std.specs.Prelude.{◌≡◌, ◌+◌, ◌<◌, ◌^◌, [], ◌∷◌, ◌++◌, length, take, drop, OnErr, OnOk};
 ghost use Rattle.diff_leaf.specs.Leb.{leb, number_of, BeginsWith};
 
 use aug_monoid::NoMemory;
 
-/// Appends the bytes of a number, of which there are at most ten.
+/// Appends the bytes of a number, of which there are at most ten. A refusal leaves some of them behind what stood there before.
+#[tactic(auto, using(map_model::proofs::Prefixes::front_same, map_model::proofs::Prefixes::front_then))]
 #[inline]
 pub fn push_number(out: &mut Vec<u8>, number: u64) -> Result<(), NoMemory>
-    ensures { OnOk result (out.new.items ≡ out.old.items ++ leb number) }
+    ensures appended { OnOk result (out.new.items ≡ out.old.items ++ leb number) }
+    ensures kept { take (length out.old.items) out.new.items ≡ out.old.items }
 {
     let mut rest = number;
     while rest >= 128 {
@@ -19,7 +21,8 @@ pub fn push_number(out: &mut Vec<u8>, number: u64) -> Result<(), NoMemory>
 
 #[inline(always)]
 fn push_byte(out: &mut Vec<u8>, byte: u8) -> Result<(), NoMemory>
-    ensures { OnOk result (out.new.items ≡ out.old.items ++ byte ∷ []) }
+    ensures appended { OnOk result (out.new.items ≡ out.old.items ++ byte ∷ []) }
+    ensures refused { OnErr result (out.new.items ≡ out.old.items) }
 {
     out.push(byte)?;
     Ok(())

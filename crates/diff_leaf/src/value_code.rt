@@ -16,10 +16,11 @@ pub trait ValueCode: Share {
     /// The value whose bytes stand at the start.
     ghost value_of: { List ℕ → Self };
 
-    /// Appends the bytes of the value. After a refusal some of them may stand there.
+    /// Appends the bytes of the value. A refusal leaves some of them behind what stood there before.
     fn code_to(&self, out: &mut Vec<u8>) -> Result<(), NoMemory>
         ensures appends { OnOk result (out.new.items ≡ out.old.items ++ bytes_of self.now) }
-        ensures fits { OnOk result (fits_bytes self.now) };
+        ensures fits { OnOk result (fits_bytes self.now) }
+        ensures kept { take (length out.old.items) out.new.items ≡ out.old.items };
 
     /// The value whose bytes stand at a place, and the place after it.
     fn code_at(from: &[u8], at: usize) -> (Self, usize)

@@ -20,3 +20,9 @@ front_further xs ys zs more is on =
     let whole : zs ≡ xs ++ (more ++ drop (length ys) zs) =
     sym (take-append-drop (length ys) zs) ∙ ap (λ x. x ++ drop (length ys) zs) (on ∙ is) ∙ append_assoc xs more (drop (length ys) zs) in
     front_more xs zs (more ++ drop (length ys) zs) whole
+
+-- a list that goes on, and then entries were appended
+pub front_then : {E : Type 0} (xs ys zs more : List E) → take (length xs) ys ≡ xs → zs ≡ ys ++ more → take (length xs) zs ≡ xs
+front_then xs ys zs more on is =
+    front_more xs zs (drop (length xs) ys ++ more)
+    (is ∙ ap (λ x. x ++ more) (sym (take-append-drop (length xs) ys) ∙ ap (λ x. x ++ drop (length xs) ys) on) ∙ append_assoc xs (drop (length xs) ys) more)
