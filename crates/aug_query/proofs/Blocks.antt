@@ -5,7 +5,7 @@ use Rattle.std.specs.Ordering.{is_eq}
 use Rattle.std.specs.Cmp.{IsTotalOrder}
 use Rattle.std.specs.List.{last_or, slice_get}
 use Rattle.std.specs.Option.{option_and_then}
-use Rattle.std.proofs.lemmas.Bool.{true≢false}
+use Rattle.std.proofs.lemmas.Bool.{false_from_ne_true, true≢false}
 use Rattle.std.proofs.lemmas.Option.{slice_get_within}
 use Rattle.map_model.specs.Entries.{IsIncreasing, lookup, below}
 use Rattle.map_model.specs.Parts.{rank, next, prev}
@@ -34,10 +34,6 @@ module _ {X : Type 0} where
   last_place [] h = absurd (omega arith)
   last_place (x ∷ m) h = last_of None x m ∙ ap (slice_get (x ∷ m)) {x = length m} {y = length (x ∷ m) - 1} (omega arith)
 
-false_of : (b : Bool) → (b ≡ true → ⊥) → b ≡ false
-false_of true h = absurd (h refl)
-false_of false h = refl
-
 module _ {K V : Type 0} {order : K → K → Ordering} (total : IsTotalOrder order) (m : List (K × V)) (q : K) (s : IsIncreasing order m) where
   -- a key that is found stands at a place of the list
   pub rank_found : IsSome (lookup order m q) → rank order m q < length m
@@ -57,7 +53,7 @@ module _ {K V : Type 0} {order : K → K → Ordering} (total : IsTotalOrder ord
   next_there none =
       ap (λ x. slice_get x 0) (above-drop total m q s)
       ∙ first_behind m (rank order m q + cond (is_some (lookup order m q)) 1 0)
-      ∙ ap (λ b. slice_get m (rank order m q + cond b 1 0)) (false_of (is_some (lookup order m q)) none)
+      ∙ ap (λ b. slice_get m (rank order m q + cond b 1 0)) (false_from_ne_true (is_some (lookup order m q)) none)
       ∙ ap (slice_get m) {x = rank order m q + 0} (omega arith)
 
   -- the previous entry stands before the key's place

@@ -4,9 +4,8 @@ ghost use Rattle.map_model.specs.Balance.{IsBlockSize};
 ghost use Rattle.map_model.specs.Entries.{AllAbove, AllBelow, IsIncreasing};
 ghost use Rattle.map_model.specs.Fold.{aug_filter};
 
-use crate::range::Part;
 use aug_monoid::{AugTest, Augment, Leaf, NoMemory, Share, Steps};
-use join_core::{join, join2};
+use join_core::{Part, join, join2};
 use std::alloc::Global;
 use std::marker::Brand;
 use std::sync::ledger::{Blank, Ledger};

@@ -18,6 +18,3 @@ pub use neighbours::{next, prev};
 pub use parts::{above, below, slice};
 pub use places::{rank, select};
 pub use project::aug_project;
-
-#[cfg(test)]
-mod tests;

@@ -5,8 +5,8 @@ ghost use Rattle.map_model.specs.Entries.{IsIncreasing};
 ghost use Rattle.map_model.specs.Parts.{next, prev};
 
 use crate::places::{select, share_entry};
-use crate::range::Part;
 use aug_monoid::{Augment, Key, Leaf, NoMemory, Share, Steps};
+use join_core::Part;
 use std::alloc::Global;
 use std::cmp::Ordering;
 use std::sync::ledger::Ledger;

@@ -2,8 +2,8 @@
 ghost use Rattle.std.specs.Prelude.{◌≡◌, ◌+◌, ◌≤◌, ◌<◌, IfOk, IsOk};
 ghost use Rattle.map_model.specs.Parts.{rank, select};
 
-use crate::range::Part;
 use aug_monoid::{Augment, Key, Leaf, NoMemory, Share, Steps};
+use join_core::Part;
 use std::alloc::Global;
 use std::cmp::Ordering;
 use std::sync::ledger::Ledger;

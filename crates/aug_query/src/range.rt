@@ -96,9 +96,3 @@ pub(crate) struct Span<'a, A: Augment, L: Leaf<A::Key, A::Val>, S: BlockSize> {
     pub(crate) tree: &'a TreeOver<A, L, S>,
     pub(crate) range: KeyRange<'a, A::Key>,
 }
-
-/// A tree in a struct of its own, as the recursions that count steps take it.
-#[derive(Drop)]
-pub(crate) struct Part<'a, A: Augment, L: Leaf<A::Key, A::Val>, S: BlockSize> {
-    pub(crate) tree: &'a TreeOver<A, L, S>,
-}
