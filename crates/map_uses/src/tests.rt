@@ -1,0 +1,9 @@
+//! The map type at concrete types.
+mod changes;
+mod cursors;
+mod nested;
+mod plain;
+mod queries;
+mod refusing;
+mod sums;
+mod wholes;
