@@ -1,5 +1,7 @@
 //! The map type at concrete types.
 mod changes;
+mod counted;
+mod counting;
 mod cursors;
 mod nested;
 mod plain;
