@@ -99,7 +99,8 @@ impl<A: Augment, L: Leaf<A::Key, A::Val>, S: BlockSize> MapOver<A, L, S> {
         steps: &mut Steps<C>,
     ) -> Result<MapOver<A, L, S>, NoMemory>
         requires before { IsBefore A.Key.cmp left.now.entries right.now.entries }
-        ensures { IfOk result (λ map. map.entries ≡ left.now.entries ++ right.now.entries) }
+        ensures entries { IfOk result (λ map. map.entries ≡ left.now.entries ++ right.now.entries) }
+        ensures cost { IsBalanced (weight left.now.entries) (weight right.now.entries) → steps.new ≤ steps.old + (64 * (right.now.height + 1) * (S.SIZE + 2) + 7 * (4 * S.SIZE + 4)) }
     {
         let tree = join_core::join2(alloc, &left.tree, &right.tree, steps)?;
         Ok(MapOver { tree })

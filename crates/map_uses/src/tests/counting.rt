@@ -5,30 +5,31 @@ ghost use Rattle.map_model.specs.Balance.{IsBlockSize};
 use super::counted::Counted;
 use aug_map::{Map, MapOver};
 use aug_monoid::{NoMemory, Steps, SumMax};
+use fork_join::{Cut, FreeGate};
 use leaf_blocks::PlainLeaf;
 use std::alloc::Global;
-use std::marker::Brand;
+use std::marker::{Brand, Sync};
 use std::sync::Arc;
 use std::sync::atomic::{AtomicU64, Ordering};
 use std::sync::ledger::{Blank, Ledger};
 use std::test::Fail;
+use std::thread::Threads;
 
 type Counts<const B: usize> = Map<SumMax<Counted>, PlainLeaf<Counted, u64>, B>;
 
 /// The even numbers below 200000, each with 1 as value.
-fn evens<const B: usize, C: Ledger>(
+fn evens<R: Threads + Sync, const B: usize>(
+    rt: &R,
     alloc: Global,
     compared: &Arc<AtomicU64>,
-    steps: &mut Steps<C>,
 ) -> Result<Counts<B>, NoMemory>
     requires { IsBlockSize B }
 {
-    let mut map: Counts<B> = MapOver::empty();
+    let mut entries = Vec::new(alloc);
     for half in 0..100000 {
-        let key = Counted::new(half * 2, compared)?;
-        map = map.put(alloc, key, 1, steps)?;
+        entries.push((Counted::new(half * 2, compared)?, 1))?;
     }
-    Ok(map)
+    MapOver::build(rt, alloc, &FreeGate, Cut::new(1, 1024), &entries)
 }
 
 /// The greatest numbers of comparisons that a look-up and a fold took.
@@ -44,7 +45,7 @@ fn taken(compared: &AtomicU64) -> u64 {
 }
 
 /// Compares look-ups and folds at several keys.
-fn most<const B: usize, C: Ledger>(
+fn greatest<const B: usize, C: Ledger>(
     alloc: Global,
     map: &Counts<B>,
     compared: &Arc<AtomicU64>,
@@ -53,7 +54,7 @@ fn most<const B: usize, C: Ledger>(
     let mut most = Most { get: 0, fold: 0 };
     for number in [0, 1, 99, 77_777, 100_000, 123_457, 199_998, 300_000] {
         let lo = Counted::new(number, compared)?;
-        let hi = Counted::new(number + 50_000, compared)?;
+        let hi = Counted::new(number.saturating_add(50_000), compared)?;
         taken(compared);
         map.get(alloc, &lo, steps)?;
         most.get = most.get.max(taken(compared));
@@ -68,7 +69,11 @@ fn most<const B: usize, C: Ledger>(
 }
 
 /// Whether look-ups and folds keep within their bounds.
-fn within<const B: usize, C: Ledger>(alloc: Global, blank: Blank) -> Result<bool, NoMemory>
+fn within<R: Threads + Sync, const B: usize, C: Ledger>(
+    rt: &R,
+    alloc: Global,
+    blank: Blank,
+) -> Result<bool, NoMemory>
     requires size { IsBlockSize B }
     requires name { blank.name ≡ C.name }
     requires parts { blank.parts ≡ C.parts }
@@ -76,8 +81,8 @@ fn within<const B: usize, C: Ledger>(alloc: Global, blank: Blank) -> Result<bool
 {
     let mut steps = Steps::<C>::start(blank);
     let compared = Arc::new(alloc, AtomicU64::new(0))?;
-    let map = evens::<B, C>(alloc, &compared, &mut steps)?;
-    let most = most(alloc, &map, &compared, &mut steps)?;
+    let map = evens::<R, B>(rt, alloc, &compared)?;
+    let most = greatest(alloc, &map, &compared, &mut steps)?;
     let height = map.height() as u64;
     Ok(most.get <= height + 9 && most.fold <= 8 * height + 16 * (B as u64))
 }
@@ -85,8 +90,8 @@ fn within<const B: usize, C: Ledger>(alloc: Global, blank: Blank) -> Result<bool
 #[test]
 fn comparisons_keep_within_the_bounds(rt: HostRuntime) -> Result<(), Fail> {
     let alloc = rt.alloc();
-    assert!(rt; within::<1, Brand>(alloc, Blank::new(1))?);
-    assert!(rt; within::<2, Brand>(alloc, Blank::new(1))?);
-    assert!(rt; within::<32, Brand>(alloc, Blank::new(1))?);
+    assert!(rt; within::<HostRuntime, 1, Brand>(&rt, alloc, Blank::new(1))?);
+    assert!(rt; within::<HostRuntime, 2, Brand>(&rt, alloc, Blank::new(1))?);
+    assert!(rt; within::<HostRuntime, 32, Brand>(&rt, alloc, Blank::new(1))?);
     Ok(())
 }
