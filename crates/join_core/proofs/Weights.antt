@@ -1,9 +1,8 @@
 -- What a join leaves balanced.
-use Rattle.std.proofs.Common.{◌≡◌, ℕ, ◌+◌, ◌*◌, ◌<◌, ◌≤◌, List, ◌∷◌, ◌++◌, length, ap, sym, ◌∙◌, arith, append_assoc, length-append}
-use Rattle.std.proofs.Common.{mul-le-mul_right}
+use Rattle.std.proofs.Common.{◌≡◌, ℕ, ◌+◌, ◌*◌, ◌<◌, ◌≤◌, List, ◌∷◌, ◌++◌, ap, ◌∙◌, arith, append_assoc}
 use Rattle.map_model.proofs.Cuts.{regroup}
 use Rattle.balance.specs.Turns.{IsRepairable, SingleBalances}
-use Rattle.map_model.specs.Balance.{IsBalanced, weight}
+use Rattle.map_model.specs.Balance.{IsBalanced}
 
 -- the far side of a node from which a join went down
 pub far_not_too_light : (outer near right : ℕ) → IsBalanced outer near → 3 * right < outer + near → 3 * (outer + (near + right)) < 16 * outer
