@@ -9,7 +9,7 @@ pub from_increasing-requires-clause-increasing : goal.from_increasing-requires-c
 from_increasing-requires-clause-increasing g c =
     let order = g.A.Key.Ord.cmp in
     let a = c.args.a.now.entries in
-    let first : c.deref.result.now ≡ a = c.deref.ensures.value ∙ c.in_ok-push_entries.ensures ∙ ap (λ x. x ++ a) c.new-first.ensures.items in
+    let first : c.deref.result.now ≡ a = c.deref.ensures.value ∙ c.in_ok-push_entries.ensures.appended ∙ ap (λ x. x ++ a) c.new-first.ensures.items in
     let both : c.deref-3.result.now ≡ union order (g.R.Resolve.resolved c.args.how.now) c.deref.result.now c.deref-2.result.now = c.deref-3.ensures.value ∙ c.in_ok-both.ensures in
     subst (IsIncreasing order) (sym both) (IsIncreasing-union g.met.A.Key.Ord.total (g.R.Resolve.resolved c.args.how.now) c.deref.result.now c.deref-2.result.now (subst (IsIncreasing order) (sym first) c.size.ensures.increasing))
 
@@ -18,8 +18,8 @@ from_increasing-requires-clause-fits g c =
     let order = g.A.Key.Ord.cmp in
     let a = c.args.a.now.entries in
     let b = c.args.b.now.entries in
-    let first : c.deref.result.now ≡ a = c.deref.ensures.value ∙ c.in_ok-push_entries.ensures ∙ ap (λ x. x ++ a) c.new-first.ensures.items in
-    let second : c.deref-2.result.now ≡ b = c.deref-2.ensures.value ∙ c.in_ok-push_entries-2.ensures ∙ ap (λ x. x ++ b) c.new-second.ensures.items in
+    let first : c.deref.result.now ≡ a = c.deref.ensures.value ∙ c.in_ok-push_entries.ensures.appended ∙ ap (λ x. x ++ a) c.new-first.ensures.items in
+    let second : c.deref-2.result.now ≡ b = c.deref-2.ensures.value ∙ c.in_ok-push_entries-2.ensures.appended ∙ ap (λ x. x ++ b) c.new-second.ensures.items in
     let both : c.deref-3.result.now ≡ union order (g.R.Resolve.resolved c.args.how.now) c.deref.result.now c.deref-2.result.now = c.deref-3.ensures.value ∙ c.in_ok-both.ensures in
     let most = length-union_le g.met.A.Key.Ord.total g.met.A.Key.Key.exact (g.R.Resolve.resolved c.args.how.now) c.deref.result.now c.deref-2.result.now (subst (IsIncreasing order) (sym first) c.size.ensures.increasing) in
     omega (arith, ap length both, most, ap length first, ap length second, c.requires.small, c.block_size-least.ensures.lawful.1)
