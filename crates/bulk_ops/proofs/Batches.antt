@@ -11,7 +11,6 @@ use Rattle.map_model.specs.Operations.{last_at}
 use Rattle.map_model.proofs.Operations.{build-is, after_puts-union}
 use Rattle.map_model.proofs.Sorted.{IsIncreasing-dedup, lookup-batch}
 use Rattle.bulk_ops.specs.Batches.{IsBatch}
-use Rattle.bulk_ops.specs.Found.{found_in}
 use Rattle.bulk_ops.proofs.Removals.{dels-difference}
 
 module _ {K V : Type 0} {order : K → K → Ordering} (total : IsTotalOrder order) (exact : IsExact order) where

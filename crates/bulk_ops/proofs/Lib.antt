@@ -1,3 +1,4 @@
+pub mod Laws
 pub mod Combinations
 pub mod Removals
 pub mod Filtered

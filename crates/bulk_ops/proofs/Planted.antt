@@ -1,7 +1,6 @@
 -- A slice cut around an entry.
-use Rattle.std.proofs.Common.{◌≡◌, ◌<◌, ◌^◌, ℕ, List, ◌∷◌, ◌++◌, length, Option, Some, sym, ap, subst, ◌∙◌, arith}
+use Rattle.std.proofs.Common.{◌≡◌, ◌<◌, ℕ, List, ◌∷◌, ◌++◌, length, Some, subst, arith}
 use Rattle.std.specs.Borrow.{Bor}
-use Rattle.std.specs.List.{cons_option}
 use Rattle.std.specs.declared.cmp.Ordering.{Ordering}
 use Rattle.map_model.specs.Entries.{IsIncreasing}
 use Rattle.bulk_ops.specs.Answers.{IsPutTogether, slice_entries, CanBePlanted}

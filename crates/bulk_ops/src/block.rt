@@ -1,8 +1,8 @@
-//! The reduction of a slice, and of two sides around an entry.
+//! The reduction of a leaf, and of two sides around an entry.
 ghost use Rattle.std.specs.Prelude.{◌≡◌, IfOk};
 ghost use Rattle.map_model.specs.Fold.{reduce};
 
-use aug_monoid::{NoMemory, Reduce};
+use aug_monoid::{Key, Leaf, NoMemory, Reduce, Share};
 use std::alloc::Global;
 
 /// What two sides and the entry between them are reduced to.
@@ -21,17 +21,21 @@ pub(crate) fn meet_around<K, V, M: Reduce<K, V>>(
     how.meet(alloc, front, after)
 }
 
-/// What the entries of a slice are reduced to.
-pub(crate) fn reduce_slice<K, V, M: Reduce<K, V>>(
+/// What the entries of a leaf are reduced to, in one walk over them.
+pub(crate) fn reduce_leaf<K: Key, V: Share, L: Leaf<K, V>, M: Reduce<K, V>>(
     alloc: Global,
-    entries: &[(K, V)],
+    leaf: &L,
     how: &M,
 ) -> Result<M::Out, NoMemory>
-    ensures { IfOk result (λ out. out ≡ reduce (M.image_of how.now) (M.unit_of how.now) (M.met how.now) entries.now) }
+    ensures { IfOk result (λ out. out ≡ reduce (M.image_of how.now) (M.unit_of how.now) (M.met how.now) (L.entries leaf.now)) }
 {
     let mut total = how.unit();
-    for entry in entries {
-        let image = how.of(alloc, &entry.0, &entry.1)?;
+    let mut walk = leaf.walk();
+    for _at in 0..leaf.len() {
+        let Some((key, val)) = leaf.walk_next(alloc, &mut walk)? else {
+            unreachable!()
+        };
+        let image = how.of(alloc, &key, &val)?;
         total = how.meet(alloc, total, image)?;
     }
     Ok(total)

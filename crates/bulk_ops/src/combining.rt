@@ -9,7 +9,7 @@ ghost use Rattle.bulk_ops.specs.Combination.{combined_entries, entry_count};
 
 use crate::combination::Combination;
 use crate::middle::join_around;
-use crate::small::{entries_of, kept_or_none, tree_of};
+use crate::small::{SLICED_BLOCKS, entries_of, kept_or_none, tree_of};
 use crate::uncounted::split_at;
 use aug_monoid::{Augment, Key, Leaf, NoMemory, Share, SyncAugment};
 use fork_join::{Cut, Divide, Gate, Opened, divide};
@@ -67,7 +67,7 @@ impl<
     }
 }
 
-/// Two trees that are small, of which one is empty or which are cut at the root of the greater one.
+/// Two trees of which one is empty, which are small and of like sizes, or which are cut at the root of the greater one.
 fn open_sides<A: Augment, L: Leaf<A::Key, A::Val>, S: BlockSize, W: Combination<A::Key, A::Val>>(
     alloc: Global,
     how: &W,
@@ -87,7 +87,10 @@ fn open_sides<A: Augment, L: Leaf<A::Key, A::Val>, S: BlockSize, W: Combination<
     if second == 0 {
         return Ok(Opened::Done(kept_or_none(a, how.keeps_first())));
     }
-    if first + second <= 4 * a.block_size() {
+    let both = first + second;
+    let few = both <= 4 * a.block_size();
+    let alike = both / 8 <= first.min(second);
+    if few || (alike && both <= SLICED_BLOCKS * a.block_size()) {
         return Ok(Opened::Done(combine_small(alloc, how, &a, &b)?));
     }
     if first >= second {

@@ -5,7 +5,7 @@ ghost use Rattle.map_model.specs.Entries.{IsIncreasing};
 ghost use Rattle.bulk_ops.specs.Answers.{IsAnswer, IsPutTogether, filtered_entries};
 
 use crate::middle::join_around;
-use crate::small::{entries_of, tree_of};
+use crate::small::{SLICED_BLOCKS, entries_of, tree_of};
 use aug_monoid::{Augment, Leaf, NoMemory, Share, SyncAugment, Test};
 use entry_lists::filtered_of;
 use fork_join::{Cut, Divide, Gate, Opened, divide};
@@ -52,7 +52,7 @@ impl<
                 key,
                 val,
                 right,
-            } => {
+            } if part.size() > SLICED_BLOCKS * part.block_size() => {
                 let middle = keep_entry::<A::Key, A::Val, T>(alloc, self.test, key, val)?;
                 Ok(Opened::Split(left, middle, right))
             }

@@ -2,8 +2,7 @@
 ghost use Rattle.std.specs.Prelude.{◌≡◌, ◌∷◌, ◌++◌, length, IfOk};
 ghost use Rattle.map_model.specs.Fold.{reduce};
 
-use crate::block::{meet_around, reduce_slice};
-use crate::small::entries_of;
+use crate::block::{meet_around, reduce_leaf};
 use aug_monoid::{Augment, Leaf, NoMemory, Reduce, SyncAugment, SyncReduce};
 use fork_join::{Cut, Divide, Gate, Opened, divide};
 use std::alloc::Global;
@@ -47,11 +46,11 @@ impl<
                 val,
                 right,
             } => Ok(Opened::Split(left, (key, val), right)),
-            _ => {
-                let entries = entries_of::<A, L, S>(alloc, part)?;
-                let all = reduce_slice::<A::Key, A::Val, M>(alloc, &entries, self.how)?;
+            LookOver::Block { leaf } => {
+                let all = reduce_leaf::<A::Key, A::Val, L, M>(alloc, leaf, self.how)?;
                 Ok(Opened::Done(all))
             }
+            LookOver::Empty => Ok(Opened::Done(self.how.unit())),
         }
     }
 

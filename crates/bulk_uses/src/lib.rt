@@ -2,4 +2,10 @@
 #![tactic(auto)]
 
 #[cfg(test)]
+mod gate_tests;
+#[cfg(test)]
+mod refusal_tests;
+#[cfg(test)]
+mod runs;
+#[cfg(test)]
 mod tests;

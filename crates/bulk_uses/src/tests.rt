@@ -1,173 +1,146 @@
-//! A gate that holds each half until the other has come, and each operation at concrete types.
-ghost use Rattle.std.specs.Prelude.{◌≤◌};
+//! Each operation at concrete types, against plain lists.
 ghost use Rattle.map_model.specs.Balance.{IsBlockSize};
 
-use aug_monoid::{NoMemory, Reduce, SatSum, Second, SumMax, Test};
+use crate::runs::{Multiples, Sums, listed};
+use aug_monoid::{First, NoMemory, Reduce, Second, Test};
 use bulk_ops::{build, difference, filter, intersect, map_reduce, multi_del, multi_put, union};
-use fork_join::{Cut, FreeGate, Gate};
-use leaf_blocks::PlainLeaf;
+use fork_join::{Cut, FreeGate};
 use std::alloc::Global;
-use std::sync::atomic::{AtomicU64, Ordering};
+use std::marker::Sync;
 use std::test::Fail;
-use std::thread::{Threads, yield_now};
-use tree_base::Tree;
+use std::thread::Threads;
 
-type Sums<const B: usize> = Tree<SumMax<u64>, PlainLeaf<u64, u64>, B>;
-
-const TURN_LIMIT: u64 = 10_000_000;
-
-#[derive(Drop)]
-struct Meeting {
-    left_came: AtomicU64,
-    right_came: AtomicU64,
-    gave_up: AtomicU64,
+#[derive(Clone, Copy, Debug)]
+enum Combined {
+    Union,
+    Intersection,
+    Difference,
 }
 
-fn new_meeting() -> Meeting {
-    Meeting {
-        left_came: AtomicU64::new(0),
-        right_came: AtomicU64::new(0),
-        gave_up: AtomicU64::new(0),
+// What stands at a key of two maps: the union keeps the first value, the intersection the second.
+fn kept(call: Combined, a: Option<u64>, b: Option<u64>) -> Option<u64> {
+    match (call, a, b) {
+        (Combined::Union, None, _) => b,
+        (Combined::Union, _, _) => a,
+        (Combined::Intersection, Some(_), _) => b,
+        (Combined::Difference, _, None) => a,
+        _ => None,
     }
 }
 
-impl Meeting {
-    fn hold_until(&self, other_came: &AtomicU64) {
-        for _ in 0..TURN_LIMIT {
-            if other_came.load(Ordering::SeqCst) != 0 {
-                return;
-            }
-            yield_now();
-        }
-        self.gave_up.store(1, Ordering::SeqCst);
-    }
-}
-
-impl Gate for Meeting {
-    fn enter(&self, place: u64) {
-        match place {
-            2 => {
-                self.left_came.store(1, Ordering::SeqCst);
-                self.hold_until(&self.right_came);
-            }
-            3 => {
-                self.right_came.store(1, Ordering::SeqCst);
-                self.hold_until(&self.left_came);
-            }
-            _ => {}
+// The entries that the call is to answer, key by key.
+fn wanted(
+    alloc: Global,
+    call: Combined,
+    a: Multiples,
+    b: Multiples,
+) -> Result<Vec<(u64, u64)>, NoMemory> {
+    let mut entries = Vec::new(alloc);
+    for key in 0..a.end.max(b.end) {
+        if let Some(val) = kept(call, a.value_at(key), b.value_at(key)) {
+            entries.push((key, val))?;
         }
     }
+    Ok(entries)
 }
 
-#[derive(Drop)]
-struct ValueAbove {
-    limit: u64,
-}
-
-impl Test<u64, u64> for ValueAbove {
-    ghost use Rattle.std.specs.Prelude.{nat_lt};
-
-    ghost passes = { λ test _ val. nat_lt test.limit val };
-
-    fn holds(&self, _key: &u64, val: &u64) -> bool {
-        self.limit < *val
-    }
-}
-
-// The entries of the multiples of a step below a limit, each with its key as value.
-fn multiples<R: Threads + Sync, const B: usize>(
+// The entries that the call answers.
+fn answered<R: Threads + Sync, const B: usize>(
     rt: &R,
     alloc: Global,
-    step: u64,
-    count: u64,
-) -> Result<Sums<B>, NoMemory>
+    cut: Cut,
+    call: Combined,
+    a: Multiples,
+    b: Multiples,
+) -> Result<Vec<(u64, u64)>, NoMemory>
     requires { IsBlockSize B }
 {
-    let mut pairs = Vec::new(alloc);
-    for at in 0..count {
-        let key = at.wrapping_mul(step);
-        pairs.push((key, key))?;
-    }
-    build(rt, alloc, &FreeGate, Cut::new(4, 64), pairs.as_slice())
+    let first = a.tree::<R, B>(rt, alloc, cut)?;
+    let second = b.tree::<R, B>(rt, alloc, cut)?;
+    let answer = match call {
+        Combined::Union => union(rt, alloc, &FreeGate, cut, &first, &second, &First)?,
+        Combined::Intersection => intersect(rt, alloc, &FreeGate, cut, &first, &second, &Second)?,
+        Combined::Difference => difference(rt, alloc, &FreeGate, cut, &first, &second)?,
+    };
+    listed(alloc, &answer)
 }
 
-#[test]
-fn halves_of_a_union_meet(rt: HostRuntime) -> Result<(), Fail> {
-    let even = multiples::<HostRuntime, 32>(&rt, rt.alloc(), 2, 4096)?;
-    let threes = multiples::<HostRuntime, 32>(&rt, rt.alloc(), 3, 4096)?;
-    let gate = new_meeting();
-    let cut = Cut::new(2, 1);
-    let both = union(&rt, rt.alloc(), &gate, cut, &even, &threes, &Second)?;
-    assert_eq!(rt; both.size(), 6826);
-    assert_eq!(rt; gate.left_came.load(Ordering::SeqCst), 1);
-    assert_eq!(rt; gate.right_came.load(Ordering::SeqCst), 1);
-    assert_eq!(rt; gate.gave_up.load(Ordering::SeqCst), 0);
-    Ok(())
-}
-
-// The sizes of the three combinations of the even numbers and the multiples of 3, with some workers.
-fn combined_sizes<R: Threads + Sync, const B: usize>(
+// That the call answers what is wanted, in blocks of three sizes.
+fn answers<R: Threads + Sync>(
     rt: &R,
     alloc: Global,
-    workers: u32,
-) -> Result<(u64, u64, u64), NoMemory>
-    requires block { IsBlockSize B }
-    requires workers { (1 ≤ workers) × (workers ≤ 64) }
-{
-    let cut = Cut::new(workers, 1);
-    let even = multiples::<R, B>(rt, alloc, 2, 500)?;
-    let threes = multiples::<R, B>(rt, alloc, 3, 40)?;
-    let both = union(rt, alloc, &FreeGate, cut, &even, &threes, &SatSum)?;
-    let common = intersect(rt, alloc, &FreeGate, cut, &even, &threes, &SatSum)?;
-    let rest = difference(rt, alloc, &FreeGate, cut, &even, &threes)?;
-    Ok((both.size(), common.size(), rest.size()))
+    cut: Cut,
+    call: Combined,
+    a: Multiples,
+    b: Multiples,
+) -> Result<bool, NoMemory> {
+    let entries = wanted(alloc, call, a, b)?;
+    let one = answered::<R, 1>(rt, alloc, cut, call, a, b)?;
+    let two = answered::<R, 2>(rt, alloc, cut, call, a, b)?;
+    let many = answered::<R, 32>(rt, alloc, cut, call, a, b)?;
+    Ok(one == entries && two == entries && many == entries)
+}
+
+fn multiples(step: u64, from: u64, end: u64) -> Multiples {
+    Multiples { step, from, end }
 }
 
 #[test]
-fn any_block_size_and_any_workers_give_the_same(rt: HostRuntime) -> Result<(), Fail> {
-    let wanted = (520, 20, 480);
-    let one = combined_sizes::<HostRuntime, 1>(&rt, rt.alloc(), 1)?;
-    assert_eq!(rt; one, wanted);
-    let two = combined_sizes::<HostRuntime, 2>(&rt, rt.alloc(), 4)?;
-    assert_eq!(rt; two, wanted);
-    let many = combined_sizes::<HostRuntime, 32>(&rt, rt.alloc(), 64)?;
-    assert_eq!(rt; many, wanted);
+fn two_maps_are_combined_key_by_key(rt: HostRuntime) -> Result<(), Fail> {
+    let evens = multiples(2, 0, 3000);
+    for (a, b) in [
+        (evens, evens),
+        (evens, multiples(3, 0, 4500)),
+        (multiples(1, 0, 1000), multiples(1, 1000, 1700)),
+        (evens, multiples(700, 7, 3000)),
+        (multiples(999, 0, 9000), evens),
+        (evens, multiples(1, 0, 0)),
+        (multiples(1, 0, 0), evens),
+    ] {
+        for call in [
+            Combined::Union,
+            Combined::Intersection,
+            Combined::Difference,
+        ] {
+            for cut in [Cut::new(1, 1), Cut::new(4, 1), Cut::new(64, 1)] {
+                assert!(rt; answers(&rt, rt.alloc(), cut, call, a, b)?, "{call:?} {a:?} {b:?} {cut:?}");
+            }
+        }
+    }
     Ok(())
 }
 
 #[test]
 fn a_later_pair_of_a_key_wins(rt: HostRuntime) -> Result<(), Fail> {
+    let cut = Cut::new(2, 1);
     let pairs = [(5, 50), (1, 10), (5, 51), (3, 30)];
-    let built: Sums<2> = build(&rt, rt.alloc(), &FreeGate, Cut::new(2, 1), &pairs)?;
-    assert_eq!(rt; built.size(), 3);
+    let built: Sums<2> = build(&rt, rt.alloc(), &FreeGate, cut, &pairs)?;
+    let entries = listed(rt.alloc(), &built)?;
+    assert_eq!(rt; entries.as_slice(), [(1, 10), (3, 30), (5, 51)].as_slice());
+    let puts = [(4, 40), (3, 31), (4, 41)];
+    let put = multi_put(&rt, rt.alloc(), &FreeGate, cut, &built, &puts)?;
+    let entries = listed(rt.alloc(), &put)?;
+    assert_eq!(rt; entries.as_slice(), [(1, 10), (3, 31), (4, 41), (5, 51)].as_slice());
+    let keys = [9, 5, 0, 3, 5];
+    let left = multi_del(&rt, rt.alloc(), &FreeGate, cut, &put, &keys)?;
+    let entries = listed(rt.alloc(), &left)?;
+    assert_eq!(rt; entries.as_slice(), [(1, 10), (4, 41)].as_slice());
     Ok(())
 }
 
-#[test]
-fn puts_set_old_keys_and_add_new_ones(rt: HostRuntime) -> Result<(), Fail> {
-    let old = multiples::<HostRuntime, 2>(&rt, rt.alloc(), 2, 100)?;
-    let pairs = [(3, 31), (4, 40), (3, 32)];
-    let new = multi_put(&rt, rt.alloc(), &FreeGate, Cut::new(2, 1), &old, &pairs)?;
-    assert_eq!(rt; new.size(), 101);
-    Ok(())
+#[derive(Drop)]
+struct KeyBelow {
+    limit: u64,
 }
 
-#[test]
-fn removals_leave_the_other_keys(rt: HostRuntime) -> Result<(), Fail> {
-    let old = multiples::<HostRuntime, 2>(&rt, rt.alloc(), 2, 100)?;
-    let keys = [9, 4, 0, 4];
-    let new = multi_del(&rt, rt.alloc(), &FreeGate, Cut::new(2, 1), &old, &keys)?;
-    assert_eq!(rt; new.size(), 98);
-    Ok(())
-}
+impl Test<u64, u64> for KeyBelow {
+    ghost use Rattle.std.specs.Prelude.{nat_lt};
 
-#[test]
-fn a_filter_keeps_what_holds(rt: HostRuntime) -> Result<(), Fail> {
-    let tree = multiples::<HostRuntime, 2>(&rt, rt.alloc(), 1, 1000)?;
-    let test = ValueAbove { limit: 899 };
-    let kept = filter(&rt, rt.alloc(), &FreeGate, Cut::new(4, 1), &tree, &test)?;
-    assert_eq!(rt; kept.size(), 100);
-    Ok(())
+    ghost passes = { λ test key _. nat_lt key test.limit };
+
+    fn holds(&self, key: &u64, _val: &u64) -> bool {
+        *key < self.limit
+    }
 }
 
 #[derive(Drop)]
@@ -211,10 +184,18 @@ impl Reduce<u64, u64> for KeySum {
 }
 
 #[test]
-fn a_reduction_sums_the_keys(rt: HostRuntime) -> Result<(), Fail> {
-    let tree = multiples::<HostRuntime, 2>(&rt, rt.alloc(), 1, 1000)?;
-    let cut = Cut::new(4, 1);
-    let sum = map_reduce(&rt, rt.alloc(), &FreeGate, cut, &tree, &KeySum)?;
-    assert_eq!(rt; sum, 499_500);
+fn a_part_is_filtered_and_summed(rt: HostRuntime) -> Result<(), Fail> {
+    let all = multiples(1, 0, 1000).tree::<HostRuntime, 2>(&rt, rt.alloc(), Cut::new(1, 1))?;
+    for (workers, limit, size, sum) in [
+        (Cut::new(1, 1), 0, 0, 0),
+        (Cut::new(4, 1), 100, 100, 4950),
+        (Cut::new(64, 1), 1000, 1000, 499_500),
+    ] {
+        let test = KeyBelow { limit };
+        let part = filter(&rt, rt.alloc(), &FreeGate, workers, &all, &test)?;
+        assert_eq!(rt; part.size(), size);
+        let total = map_reduce(&rt, rt.alloc(), &FreeGate, workers, &part, &KeySum)?;
+        assert_eq!(rt; total, sum);
+    }
     Ok(())
 }

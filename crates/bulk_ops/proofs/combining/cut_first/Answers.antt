@@ -27,6 +27,6 @@ returns-in_ok-far-in-Node g c =
     let high_is : high.entries ≡ above g.A.Key.Ord.cmp c.args.b.now.entries key = search rules in
     let seen : option_map (λ v. v.now) c.as_ref.result ≡ lookup g.A.Key.Ord.cmp c.args.b.now.entries key = search rules in
     let middle = c.in_ok-middle-in-Node.ensures ∙ ap (λ o. option_map (λ x. (key, x)) (kept (Some c.in-Node.val.now) o)) seen in
-    let put = cut_at_first g.met.A.Key.Ord.total g.met.A.Key.Key.exact laws c.args.a.now c.args.b.now near far low high key c.in-Node.val.now c.in_ok-middle-in-Node.middle is c.requires.first c.requires.second low_is high_is middle in
+    let put = cut_at_first laws c.args.a.now c.args.b.now near far low high key c.in-Node.val.now c.in_ok-middle-in-Node.middle is c.requires.first c.requires.second low_is high_is middle in
     let less = smaller g.A.Key.Ord.cmp c.args.a.now.entries c.args.b.now.entries near.entries far.entries low.entries high.entries (key, c.in-Node.val.now) key is low_is high_is in
     (put, tt, tt, less.0, less.1)
