@@ -1,4 +1,3 @@
-pub mod Laws
 pub mod Combinations
 pub mod Removals
 pub mod Filtered

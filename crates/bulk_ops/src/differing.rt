@@ -2,7 +2,7 @@
 ghost use Rattle.std.specs.Prelude.{◌≡◌, true, false, IfOk};
 ghost use Rattle.map_model.specs.SetOperations.{difference as difference_of_entries};
 ghost use Rattle.bulk_ops.specs.Combination.{unless};
-ghost use Rattle.bulk_ops.proofs.Laws.{difference_laws};
+ghost use Rattle.bulk_ops.specs.Laws.{difference_laws};
 
 use crate::combination::Combination;
 use crate::combining::combine;

@@ -2,7 +2,7 @@
 ghost use Rattle.std.specs.Prelude.{◌≡◌, false, IfOk};
 ghost use Rattle.map_model.specs.SetOperations.{intersect as intersection_of_entries};
 ghost use Rattle.map_model.proofs.Intersections.{met};
-ghost use Rattle.bulk_ops.proofs.Laws.{intersection_laws};
+ghost use Rattle.bulk_ops.specs.Laws.{intersection_laws};
 
 use crate::combination::Combination;
 use crate::combining::combine;

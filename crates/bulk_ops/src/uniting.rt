@@ -2,7 +2,7 @@
 ghost use Rattle.std.specs.Prelude.{◌≡◌, true, IfOk};
 ghost use Rattle.map_model.specs.SetOperations.{union as union_of_entries};
 ghost use Rattle.map_model.proofs.Unions.{united};
-ghost use Rattle.bulk_ops.proofs.Laws.{union_laws};
+ghost use Rattle.bulk_ops.specs.Laws.{union_laws};
 
 use crate::combination::Combination;
 use crate::combining::combine;
