@@ -57,10 +57,12 @@ fn put_together<L: Leaf<u64, u64>, const B: usize, C: Ledger>(
     Ok(lists)
 }
 
-fn all_changes<L: Leaf<u64, u64>, const B: usize, C: Ledger>(
+type Table = (Vec<Entries>, Vec<Entries>, Vec<Entries>);
+
+fn changes_counted<L: Leaf<u64, u64>, const B: usize, C: Ledger>(
     alloc: Global,
     blank: Blank,
-) -> Result<(Vec<Entries>, Vec<Entries>, Vec<Entries>), NoMemory>
+) -> Result<Table, NoMemory>
     requires size { IsBlockSize B }
     requires name { blank.name ≡ C.name }
     requires parts { blank.parts ≡ C.parts }
@@ -74,7 +76,11 @@ fn all_changes<L: Leaf<u64, u64>, const B: usize, C: Ledger>(
     Ok((single, apart, together))
 }
 
-type Table = (Vec<Entries>, Vec<Entries>, Vec<Entries>);
+fn changes<L: Leaf<u64, u64>, const B: usize>(alloc: Global) -> Result<Table, NoMemory>
+    requires { IsBlockSize B }
+{
+    changes_counted::<L, B, Brand>(alloc, Blank::new(1))
+}
 
 fn assert_changes<R: Abort>(rt: &R, lists: &Table) {
     let single: [&[(u64, u64)]; 3] = [
@@ -101,17 +107,16 @@ fn assert_changes<R: Abort>(rt: &R, lists: &Table) {
 #[test]
 fn one_entry_at_a_time(rt: HostRuntime) -> Result<(), Fail> {
     let alloc = rt.alloc();
-    assert_changes(&rt, &all_changes::<PlainLeaf<u64, u64>, 32, Brand>(alloc, Blank::new(1))?);
-    assert_changes(&rt, &all_changes::<PlainLeaf<u64, u64>, 2, Brand>(alloc, Blank::new(1))?);
-    assert_changes(&rt, &all_changes::<DiffLeaf<u64>, 32, Brand>(alloc, Blank::new(1))?);
+    assert_changes(&rt, &changes::<PlainLeaf<u64, u64>, 32>(alloc)?);
+    assert_changes(&rt, &changes::<PlainLeaf<u64, u64>, 2>(alloc)?);
+    assert_changes(&rt, &changes::<DiffLeaf<u64>, 32>(alloc)?);
     Ok(())
 }
 
+type Told = (u64, u32, u64, Option<u64>);
+
 /// What a map tells: its size, its height, the sum of its values, and the value at a key.
-fn told<L: Leaf<u64, u64>, C: Ledger>(
-    alloc: Global,
-    blank: Blank,
-) -> Result<(u64, u32, u64, Option<u64>), NoMemory>
+fn told_counted<L: Leaf<u64, u64>, C: Ledger>(alloc: Global, blank: Blank) -> Result<Told, NoMemory>
     requires name { blank.name ≡ C.name }
     requires parts { blank.parts ≡ C.parts }
     requires some { 0 < blank.parts }
@@ -123,12 +128,16 @@ fn told<L: Leaf<u64, u64>, C: Ledger>(
     Ok((map.size(), map.height(), sum, found))
 }
 
+fn told<L: Leaf<u64, u64>>(alloc: Global) -> Result<Told, NoMemory> {
+    told_counted::<L, Brand>(alloc, Blank::new(1))
+}
+
 #[test]
 fn what_a_map_tells(rt: HostRuntime) -> Result<(), Fail> {
     let alloc = rt.alloc();
-    let plain = told::<PlainLeaf<u64, u64>, Brand>(alloc, Blank::new(1))?;
+    let plain = told::<PlainLeaf<u64, u64>>(alloc)?;
     assert_eq!(rt; plain, (4, 1, 200, Some(80)));
-    let coded = told::<DiffLeaf<u64>, Brand>(alloc, Blank::new(1))?;
+    let coded = told::<DiffLeaf<u64>>(alloc)?;
     assert_eq!(rt; coded, (4, 1, 200, Some(80)));
     Ok(())
 }

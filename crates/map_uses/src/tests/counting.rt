@@ -69,7 +69,7 @@ fn greatest<const B: usize, C: Ledger>(
 }
 
 /// Whether look-ups and folds keep within their bounds.
-fn within<R: Threads + Sync, const B: usize, C: Ledger>(
+fn within_counted<R: Threads + Sync, const B: usize, C: Ledger>(
     rt: &R,
     alloc: Global,
     blank: Blank,
@@ -87,11 +87,17 @@ fn within<R: Threads + Sync, const B: usize, C: Ledger>(
     Ok(most.get <= height + 9 && most.fold <= 8 * height + 16 * (B as u64))
 }
 
+fn within<R: Threads + Sync, const B: usize>(rt: &R, alloc: Global) -> Result<bool, NoMemory>
+    requires { IsBlockSize B }
+{
+    within_counted::<R, B, Brand>(rt, alloc, Blank::new(1))
+}
+
 #[test]
 fn comparisons_keep_within_the_bounds(rt: HostRuntime) -> Result<(), Fail> {
     let alloc = rt.alloc();
-    assert!(rt; within::<HostRuntime, 1, Brand>(&rt, alloc, Blank::new(1))?);
-    assert!(rt; within::<HostRuntime, 2, Brand>(&rt, alloc, Blank::new(1))?);
-    assert!(rt; within::<HostRuntime, 32, Brand>(&rt, alloc, Blank::new(1))?);
+    assert!(rt; within::<HostRuntime, 1>(&rt, alloc)?);
+    assert!(rt; within::<HostRuntime, 2>(&rt, alloc)?);
+    assert!(rt; within::<HostRuntime, 32>(&rt, alloc)?);
     Ok(())
 }

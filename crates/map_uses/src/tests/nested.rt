@@ -96,7 +96,10 @@ impl Augment for FirstPosting {
 }
 
 /// The first weight of the entries from 2 on.
-fn first_weight<C: Ledger>(alloc: Global, blank: Blank) -> Result<Option<(u64, u64)>, NoMemory>
+fn first_weight_counted<C: Ledger>(
+    alloc: Global,
+    blank: Blank,
+) -> Result<Option<(u64, u64)>, NoMemory>
     requires name { blank.name ≡ C.name }
     requires parts { blank.parts ≡ C.parts }
     requires some { 0 < blank.parts }
@@ -110,8 +113,12 @@ fn first_weight<C: Ledger>(alloc: Global, blank: Blank) -> Result<Option<(u64, u
     first.weights.select(alloc, 0)
 }
 
+fn first_weight(alloc: Global) -> Result<Option<(u64, u64)>, NoMemory> {
+    first_weight_counted::<Brand>(alloc, Blank::new(1))
+}
+
 #[test]
 fn a_map_as_augmented_value(rt: HostRuntime) -> Result<(), Fail> {
-    assert_eq!(rt; first_weight::<Brand>(rt.alloc(), Blank::new(1))?, Some((3, 30)));
+    assert_eq!(rt; first_weight(rt.alloc())?, Some((3, 30)));
     Ok(())
 }

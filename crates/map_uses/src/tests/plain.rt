@@ -28,12 +28,15 @@ fn assert_alike<R: Abort, L: Leaf<u64, u64>, const B: usize, C: Ledger>(
     assert_eq!(rt; map.rank(&key, steps) as usize, keys_below(list, key));
     let hi = key.saturating_add(20);
     let part = entries_between(alloc, list, key, hi)?;
-    assert_eq!(rt; map.slice(alloc, &key, &hi)?.to_vec(alloc)?.as_slice(), part.as_slice());
+    assert_eq!(rt;
+        map.slice(alloc, &key, &hi)?.to_vec(alloc)?.as_slice(),
+        part.as_slice()
+    );
     Ok(())
 }
 
 /// Runs random operations on a map and a list.
-fn run<R: Abort, L: Leaf<u64, u64>, const B: usize, C: Ledger>(
+fn run_counted<R: Abort, L: Leaf<u64, u64>, const B: usize, C: Ledger>(
     rt: &R,
     alloc: Global,
     seed: u64,
@@ -48,7 +51,7 @@ fn run<R: Abort, L: Leaf<u64, u64>, const B: usize, C: Ledger>(
     let mut map: Sums<L, B> = MapOver::empty();
     let mut list: Entries = Vec::new(alloc);
     let mut number = seed;
-    for _ in 0..300 {
+    for _turn in 0..300 {
         number = number
             .wrapping_mul(6364136223846793005)
             .wrapping_add(1442695040888963407);
@@ -65,13 +68,23 @@ fn run<R: Abort, L: Leaf<u64, u64>, const B: usize, C: Ledger>(
     Ok(())
 }
 
+fn run<R: Abort, L: Leaf<u64, u64>, const B: usize>(
+    rt: &R,
+    alloc: Global,
+    seed: u64,
+) -> Result<(), NoMemory>
+    requires { IsBlockSize B }
+{
+    run_counted::<R, L, B, Brand>(rt, alloc, seed, Blank::new(1))
+}
+
 #[test]
 fn maps_answer_as_a_sorted_list(rt: HostRuntime) -> Result<(), Fail> {
     let alloc = rt.alloc();
-    run::<HostRuntime, PlainLeaf<u64, u64>, 1, Brand>(&rt, alloc, 1, Blank::new(1))?;
-    run::<HostRuntime, PlainLeaf<u64, u64>, 2, Brand>(&rt, alloc, 2, Blank::new(1))?;
-    run::<HostRuntime, PlainLeaf<u64, u64>, 32, Brand>(&rt, alloc, 3, Blank::new(1))?;
-    run::<HostRuntime, DiffLeaf<u64>, 2, Brand>(&rt, alloc, 4, Blank::new(1))?;
-    run::<HostRuntime, DiffLeaf<u64>, 32, Brand>(&rt, alloc, 5, Blank::new(1))?;
+    run::<HostRuntime, PlainLeaf<u64, u64>, 1>(&rt, alloc, 1)?;
+    run::<HostRuntime, PlainLeaf<u64, u64>, 2>(&rt, alloc, 2)?;
+    run::<HostRuntime, PlainLeaf<u64, u64>, 32>(&rt, alloc, 3)?;
+    run::<HostRuntime, DiffLeaf<u64>, 2>(&rt, alloc, 4)?;
+    run::<HostRuntime, DiffLeaf<u64>, 32>(&rt, alloc, 5)?;
     Ok(())
 }

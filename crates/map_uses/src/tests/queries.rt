@@ -101,7 +101,7 @@ type Answers = (
     (u64, u64, u64, u64),
 );
 
-fn asked<L: Leaf<u64, u64>, const B: usize, C: Ledger>(
+fn asked_counted<L: Leaf<u64, u64>, const B: usize, C: Ledger>(
     alloc: Global,
     blank: Blank,
 ) -> Result<Answers, NoMemory>
@@ -117,6 +117,12 @@ fn asked<L: Leaf<u64, u64>, const B: usize, C: Ledger>(
     Ok((entries, values, sizes(alloc, &map)?))
 }
 
+fn asked<L: Leaf<u64, u64>, const B: usize>(alloc: Global) -> Result<Answers, NoMemory>
+    requires { IsBlockSize B }
+{
+    asked_counted::<L, B, Brand>(alloc, Blank::new(1))
+}
+
 fn totals(sum: u64, greatest: u64) -> Totals {
     Totals { sum, greatest }
 }
@@ -129,9 +135,9 @@ fn questions_to_four_entries(rt: HostRuntime) -> Result<(), NoMemory> {
         (totals(44, 34), totals(90, 50), totals(74, 40), 40),
         (2, 2, 1, 2),
     );
-    assert_eq!(rt; asked::<PlainLeaf<u64, u64>, 1, Brand>(alloc, Blank::new(1))?, want);
-    assert_eq!(rt; asked::<PlainLeaf<u64, u64>, 2, Brand>(alloc, Blank::new(1))?, want);
-    assert_eq!(rt; asked::<PlainLeaf<u64, u64>, 32, Brand>(alloc, Blank::new(1))?, want);
-    assert_eq!(rt; asked::<DiffLeaf<u64>, 32, Brand>(alloc, Blank::new(1))?, want);
+    assert_eq!(rt; asked::<PlainLeaf<u64, u64>, 1>(alloc)?, want);
+    assert_eq!(rt; asked::<PlainLeaf<u64, u64>, 2>(alloc)?, want);
+    assert_eq!(rt; asked::<PlainLeaf<u64, u64>, 32>(alloc)?, want);
+    assert_eq!(rt; asked::<DiffLeaf<u64>, 32>(alloc)?, want);
     Ok(())
 }

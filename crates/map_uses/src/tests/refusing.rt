@@ -65,7 +65,7 @@ impl Augment for NotNine {
 type Sums<const B: usize> = Map<NotNine, PlainLeaf<u64, u64>, B>;
 
 /// A fold that is refused and one that isn't, a put that is refused, and the size of the map thereafter.
-fn refused<const B: usize, C: Ledger>(
+fn refused_counted<const B: usize, C: Ledger>(
     alloc: Global,
     blank: Blank,
 ) -> Result<(bool, u64, bool, u64), NoMemory>
@@ -85,12 +85,18 @@ fn refused<const B: usize, C: Ledger>(
     Ok((nine, seven, put, map.size()))
 }
 
+fn refused<const B: usize>(alloc: Global) -> Result<(bool, u64, bool, u64), NoMemory>
+    requires { IsBlockSize B }
+{
+    refused_counted::<B, Brand>(alloc, Blank::new(1))
+}
+
 #[test]
 fn a_refused_fold_leaves_the_map(rt: HostRuntime) -> Result<(), Fail> {
     let alloc = rt.alloc();
-    let one = refused::<1, Brand>(alloc, Blank::new(1))?;
+    let one = refused::<1>(alloc)?;
     assert_eq!(rt; one, (true, 7, true, 3));
-    let many = refused::<32, Brand>(alloc, Blank::new(1))?;
+    let many = refused::<32>(alloc)?;
     assert_eq!(rt; many, (true, 7, true, 3));
     Ok(())
 }

@@ -20,8 +20,8 @@ pub(super) fn map_of<L: Leaf<u64, u64>, const B: usize, C: Ledger>(
     requires { IsBlockSize B }
 {
     let mut map: Sums<L, B> = MapOver::empty();
-    for (key, val) in entries {
-        map = map.put(alloc, *key, *val, steps)?;
+    for entry in entries {
+        map = map.put(alloc, entry.0, entry.1, steps)?;
     }
     Ok(map)
 }
