@@ -26,8 +26,8 @@ module _ {K V : Type 0} {order : K → K → Ordering} (total : IsTotalOrder ord
     first_alone = λ a. refl;
     second_alone = λ b t. nil-union total exact f b t;
     split_first = λ l k v r b s t.
-      union-split_first total exact f l k v r b s t
-      ∙ elim (lookup order b k) as (λ o. union order f l (below order b k) ++ (k, option_map_or (λ w. f v w) o v) ∷ union order f r (above order b k) ≡ union order f l (below order b k) ++ cons_option (entry_at k (united f (Some v) o)) (union order f r (above order b k))) [ None ↦ refl | Some w ↦ refl ];
+        union-split_first total exact f l k v r b s t
+        ∙ elim (lookup order b k) as (λ o. union order f l (below order b k) ++ (k, option_map_or (λ w. f v w) o v) ∷ union order f r (above order b k) ≡ union order f l (below order b k) ++ cons_option (entry_at k (united f (Some v) o)) (union order f r (above order b k))) [ None ↦ refl | Some w ↦ refl ];
     split_second = λ a l k w r s t. union-split_second total exact f a l k w r s t;
   }
 
@@ -37,11 +37,11 @@ module _ {K V : Type 0} {order : K → K → Ordering} (total : IsTotalOrder ord
     first_alone = λ a. intersect-nil order f a;
     second_alone = λ b t. refl;
     split_first = λ l k v r b s t.
-      intersect-split_first total exact f l k v r b s
-      ∙ elim (lookup order b k) as (λ o. intersect order f l (below order b k) ++ cons_option (option_map (λ w. (k, f v w)) o) (intersect order f r (above order b k)) ≡ intersect order f l (below order b k) ++ cons_option (entry_at k (met f (Some v) o)) (intersect order f r (above order b k))) [ None ↦ refl | Some w ↦ refl ];
+        intersect-split_first total exact f l k v r b s
+        ∙ elim (lookup order b k) as (λ o. intersect order f l (below order b k) ++ cons_option (option_map (λ w. (k, f v w)) o) (intersect order f r (above order b k)) ≡ intersect order f l (below order b k) ++ cons_option (entry_at k (met f (Some v) o)) (intersect order f r (above order b k))) [ None ↦ refl | Some w ↦ refl ];
     split_second = λ a l k w r s t.
-      intersect-split_second total exact f a l k w r s t
-      ∙ elim (lookup order a k) as (λ o. intersect order f (below order a k) l ++ cons_option (option_map (λ v. (k, f v w)) o) (intersect order f (above order a k) r) ≡ intersect order f (below order a k) l ++ cons_option (entry_at k (met f o (Some w))) (intersect order f (above order a k) r)) [ None ↦ refl | Some v ↦ refl ];
+        intersect-split_second total exact f a l k w r s t
+        ∙ elim (lookup order a k) as (λ o. intersect order f (below order a k) l ++ cons_option (option_map (λ v. (k, f v w)) o) (intersect order f (above order a k) r) ≡ intersect order f (below order a k) l ++ cons_option (entry_at k (met f o (Some w))) (intersect order f (above order a k) r)) [ None ↦ refl | Some v ↦ refl ];
   }
 
   pub difference_laws : IsCombination {V = V} order (difference order) unless true false
@@ -50,7 +50,7 @@ module _ {K V : Type 0} {order : K → K → Ordering} (total : IsTotalOrder ord
     first_alone = λ a. filter-all_keys (λ k. true) a (AllKeys-all (λ k. true ≡ true) (λ k. refl) a);
     second_alone = λ b t. refl;
     split_first = λ l k v r b s t.
-      difference-split_first total exact l k v r b s
-      ∙ elim (lookup order b k) as (λ o. difference order l (below order b k) ++ cond (is_none o) ((k, v) ∷ difference order r (above order b k)) (difference order r (above order b k)) ≡ difference order l (below order b k) ++ cons_option (entry_at k (unless (Some v) o)) (difference order r (above order b k))) [ None ↦ refl | Some w ↦ refl ];
+        difference-split_first total exact l k v r b s
+        ∙ elim (lookup order b k) as (λ o. difference order l (below order b k) ++ cond (is_none o) ((k, v) ∷ difference order r (above order b k)) (difference order r (above order b k)) ≡ difference order l (below order b k) ++ cons_option (entry_at k (unless (Some v) o)) (difference order r (above order b k))) [ None ↦ refl | Some w ↦ refl ];
     split_second = λ a l k w r s t. difference-split_second total exact a l k w r s t;
   }

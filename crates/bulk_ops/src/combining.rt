@@ -13,11 +13,11 @@ use crate::small::{SLICED_BLOCKS, entries_of, kept_or_none, tree_of};
 use crate::uncounted::split_at;
 use aug_monoid::{Augment, Key, Leaf, NoMemory, Share, SyncAugment};
 use fork_join::{Cut, Divide, Gate, Opened, divide};
-use tree_split::PartsOver;
 use std::alloc::Global;
 use std::marker::{Send, Sync};
 use std::thread::Threads;
 use tree_base::{BlockSize, LookOver, TreeOver};
+use tree_split::PartsOver;
 
 #[derive(Drop)]
 struct Combining<'a, W> {

@@ -8,12 +8,12 @@ use crate::differing::difference;
 use crate::sorting::last_of_each_key;
 use aug_monoid::{Augment, Leaf, NoMemory, Share, Steps, SyncAugment};
 use fork_join::{Cut, Gate};
-use tree_points::get;
 use std::alloc::Global;
 use std::marker::{Brand, Send, Sync};
 use std::sync::ledger::{Blank, Ledger};
 use std::thread::Threads;
 use tree_base::{BlockSize, TreeOver};
+use tree_points::get;
 
 /// The entries of a tree that keys name, in the order of the keys.
 fn entries_at<A: Augment, L: Leaf<A::Key, A::Val>, S: BlockSize>(

@@ -1,4 +1,4 @@
-use Rattle.std.proofs.Common.{◌≡◌, ◌∷◌, ◌++◌, Some, rules, arith, refl, sym, ap, ap₂, ◌∙◌}
+use Rattle.std.proofs.Common.{◌≡◌, ◌∷◌, ◌++◌, Some, rules, refl, sym, ap, ap₂, ◌∙◌}
 use Rattle.std.specs.Option.{option_map}
 use Rattle.map_model.specs.Entries.{lookup, below, above}
 use Rattle.bulk_ops.proofs.Combinations.{cut_at_first, smaller}

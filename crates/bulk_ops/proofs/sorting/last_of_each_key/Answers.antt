@@ -1,4 +1,4 @@
-use Rattle.std.proofs.Common.{◌≡◌, ◌++◌, Bool, take, drop, length, reverse, arith, rules, refl, subst}
+use Rattle.std.proofs.Common.{◌≡◌, ◌++◌, take, drop, length, reverse, arith, rules, subst}
 use Rattle.std.proofs.lemmas.Fn.{always_returns_same, dedup_same}
 use Rattle.std.proofs.lemmas.Grind.{common_steps}
 use Rattle.std.proofs.lemmas.List.MinMax.{ranks_by}

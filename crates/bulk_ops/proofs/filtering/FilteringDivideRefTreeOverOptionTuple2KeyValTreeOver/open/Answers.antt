@@ -1,4 +1,4 @@
-use Rattle.std.proofs.Common.{◌≡◌, ◌<◌, ◌∷◌, ◌∙◌, length, ap, arith}
+use Rattle.std.proofs.Common.{◌∙◌, length, ap, arith}
 use Rattle.map_model.proofs.Cuts.{length-around}
 use Rattle.bulk_ops.proofs.Filtered.{cut_filtered}
 use Rattle.bulk_ops.proofs.filtering.FilteringDivideRefTreeOverOptionTuple2KeyValTreeOver.open.Goals as goal
