@@ -1,5 +1,5 @@
 //! Values as bytes.
-ghost use Rattle.std.specs.Prelude.{◌≡◌, ℕ, ◌+◌, ◌<◌, ◌^◌, List, [], ◌++◌, length, drop, OnOk, refl};
+ghost use Rattle.std.specs.Prelude.{◌≡◌, ℕ, ◌+◌, ◌<◌, ◌^◌, List, [], ◌++◌, length, take, drop, OnOk, refl};
 ghost use Rattle.diff_leaf.specs.Leb.{leb, number_of, BeginsWith};
 ghost use Rattle.diff_leaf.specs.LebLaws.{number_of-leb};
 

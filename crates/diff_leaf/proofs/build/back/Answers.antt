@@ -34,4 +34,4 @@ returns g c =
     let e = entry_at_place _ _ _ _ _ _ _ c.requires.gaps.codable c.requires.gaps.is c.requires.place inside in
     let p = past_gap e c.number_at-gap.result.0 c.number_at-gap.result.1 (rw c.deref.ensures.value at c.number_at-gap.ensures.value) (rw c.deref.ensures.value at c.number_at-gap.ensures.after) in
     back_gaps _ _ _ _ c.requires.gaps _ _ _ c.requires.place _ (c.args.place.now.key + c.number_at-gap.result.0) c.number_at-gap.result.1 e p.key_is p.here
-    (rw (c.shrink_to_fit.ensures.items, c.in_ok-push_bytes.ensures, c.in_ok-push_number.ensures, c.in_ok-code.ensures.items, c.deref-2.ensures.value, take_rest) refl) refl refl
+    (rw (c.shrink_to_fit.ensures.items, c.in_ok-push_bytes.ensures, c.in_ok-push_number.ensures.appended, c.in_ok-code.ensures.items, c.deref-2.ensures.value, take_rest) refl) refl refl

@@ -13,4 +13,4 @@ returns g c =
     let p = past_gap e c.number_at-first.result.0 c.number_at-first.result.1 (rw c.deref.ensures.value at c.number_at-first.ensures.value) (rw c.deref.ensures.value at c.number_at-first.ensures.after) in
     let parts = after_parts e c.args.key c.number_at-first.result.0 c.number_at-first.result.1 p in
     IfOk-equal c.push_bytes.result _ _ _ c.push_bytes.ensures
-    (rw (c.in_ok-push_number.ensures, c.deref-2.ensures.value, append_assoc, take_rest) (ap (λ (t : List ℕ). c.args.out.now.items ++ t) parts))
+    (rw (c.in_ok-push_number.ensures.appended, c.deref-2.ensures.value, append_assoc, take_rest) (ap (λ (t : List ℕ). c.args.out.now.items ++ t) parts))
