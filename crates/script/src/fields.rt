@@ -48,12 +48,16 @@ fn register_at(row: &ByteRecord, place: usize) -> Result<u64, Code>
 fn how_of(word: &[u8]) -> Option<How>
     ensures { result ≡ how_named word.now }
 {
-    match word {
-        b"first" => Some(How::First),
-        b"second" => Some(How::Second),
-        b"sum" => Some(How::Sum),
-        b"max" => Some(How::Max),
-        _ => None,
+    if word == b"first".as_slice() {
+        Some(How::First)
+    } else if word == b"second".as_slice() {
+        Some(How::Second)
+    } else if word == b"sum".as_slice() {
+        Some(How::Sum)
+    } else if word == b"max".as_slice() {
+        Some(How::Max)
+    } else {
+        None
     }
 }
 

@@ -19,40 +19,36 @@ use std::alloc::Global;
 fn part_command(place: u64, row: &ByteRecord) -> Result<MapCommand, Code>
     ensures { result ≡ part_command place (fields_of row.now) }
 {
-    match field_at(row, 0) {
-        b"below" => {
-            let (d, m, k) = two_registers_number(row)?;
-            Ok(MapCommand::Below { place, d, m, k })
-        }
-        b"above" => {
-            let (d, m, k) = two_registers_number(row)?;
-            Ok(MapCommand::Above { place, d, m, k })
-        }
-        b"slice" => {
-            let (d, m, lo, hi) = two_registers_number_number(row)?;
-            Ok(MapCommand::Slice {
-                place,
-                d,
-                m,
-                lo,
-                hi,
-            })
-        }
-        b"atleast" => {
-            let (d, m, t) = two_registers_number(row)?;
-            Ok(MapCommand::Atleast { place, d, m, t })
-        }
-        b"filter" => {
-            let (d, m, lo, hi) = two_registers_number_number(row)?;
-            Ok(MapCommand::Filter {
-                place,
-                d,
-                m,
-                lo,
-                hi,
-            })
-        }
-        _ => Err(Code::Verb),
+    let verb = field_at(row, 0);
+    if verb == b"below".as_slice() {
+        let (d, m, k) = two_registers_number(row)?;
+        Ok(MapCommand::Below { place, d, m, k })
+    } else if verb == b"above".as_slice() {
+        let (d, m, k) = two_registers_number(row)?;
+        Ok(MapCommand::Above { place, d, m, k })
+    } else if verb == b"slice".as_slice() {
+        let (d, m, lo, hi) = two_registers_number_number(row)?;
+        Ok(MapCommand::Slice {
+            place,
+            d,
+            m,
+            lo,
+            hi,
+        })
+    } else if verb == b"atleast".as_slice() {
+        let (d, m, t) = two_registers_number(row)?;
+        Ok(MapCommand::Atleast { place, d, m, t })
+    } else if verb == b"filter".as_slice() {
+        let (d, m, lo, hi) = two_registers_number_number(row)?;
+        Ok(MapCommand::Filter {
+            place,
+            d,
+            m,
+            lo,
+            hi,
+        })
+    } else {
+        Err(Code::Verb)
     }
 }
 
@@ -61,40 +57,36 @@ fn part_command(place: u64, row: &ByteRecord) -> Result<MapCommand, Code>
 fn joint_command(place: u64, row: &ByteRecord) -> Result<MapCommand, Code>
     ensures { result ≡ joint_command place (fields_of row.now) }
 {
-    match field_at(row, 0) {
-        b"copy" => {
-            let (d, m) = two_registers(row)?;
-            Ok(MapCommand::Copy { place, d, m })
-        }
-        b"union" => {
-            let (d, a, b, how) = three_registers_how(row)?;
-            Ok(MapCommand::Union {
-                place,
-                d,
-                a,
-                b,
-                how,
-            })
-        }
-        b"inter" => {
-            let (d, a, b, how) = three_registers_how(row)?;
-            Ok(MapCommand::Inter {
-                place,
-                d,
-                a,
-                b,
-                how,
-            })
-        }
-        b"diff" => {
-            let (d, a, b) = three_registers(row)?;
-            Ok(MapCommand::Diff { place, d, a, b })
-        }
-        b"cat" => {
-            let (d, a, b) = three_registers(row)?;
-            Ok(MapCommand::Cat { place, d, a, b })
-        }
-        _ => part_command(place, row),
+    let verb = field_at(row, 0);
+    if verb == b"copy".as_slice() {
+        let (d, m) = two_registers(row)?;
+        Ok(MapCommand::Copy { place, d, m })
+    } else if verb == b"union".as_slice() {
+        let (d, a, b, how) = three_registers_how(row)?;
+        Ok(MapCommand::Union {
+            place,
+            d,
+            a,
+            b,
+            how,
+        })
+    } else if verb == b"inter".as_slice() {
+        let (d, a, b, how) = three_registers_how(row)?;
+        Ok(MapCommand::Inter {
+            place,
+            d,
+            a,
+            b,
+            how,
+        })
+    } else if verb == b"diff".as_slice() {
+        let (d, a, b) = three_registers(row)?;
+        Ok(MapCommand::Diff { place, d, a, b })
+    } else if verb == b"cat".as_slice() {
+        let (d, a, b) = three_registers(row)?;
+        Ok(MapCommand::Cat { place, d, a, b })
+    } else {
+        part_command(place, row)
     }
 }
 
@@ -103,24 +95,21 @@ fn joint_command(place: u64, row: &ByteRecord) -> Result<MapCommand, Code>
 fn range_command(place: u64, row: &ByteRecord) -> Result<MapCommand, Code>
     ensures { result ≡ range_command place (fields_of row.now) }
 {
-    match field_at(row, 0) {
-        b"sum" => {
-            let (m, lo, hi) = register_number_number(row)?;
-            Ok(MapCommand::Sum { place, m, lo, hi })
-        }
-        b"max" => {
-            let (m, lo, hi) = register_number_number(row)?;
-            Ok(MapCommand::Max { place, m, lo, hi })
-        }
-        b"list" => {
-            let (m, lo, hi) = register_number_number(row)?;
-            Ok(MapCommand::List { place, m, lo, hi })
-        }
-        b"count" => {
-            let (m, lo, hi) = register_number_number(row)?;
-            Ok(MapCommand::Count { place, m, lo, hi })
-        }
-        _ => joint_command(place, row),
+    let verb = field_at(row, 0);
+    if verb == b"sum".as_slice() {
+        let (m, lo, hi) = register_number_number(row)?;
+        Ok(MapCommand::Sum { place, m, lo, hi })
+    } else if verb == b"max".as_slice() {
+        let (m, lo, hi) = register_number_number(row)?;
+        Ok(MapCommand::Max { place, m, lo, hi })
+    } else if verb == b"list".as_slice() {
+        let (m, lo, hi) = register_number_number(row)?;
+        Ok(MapCommand::List { place, m, lo, hi })
+    } else if verb == b"count".as_slice() {
+        let (m, lo, hi) = register_number_number(row)?;
+        Ok(MapCommand::Count { place, m, lo, hi })
+    } else {
+        joint_command(place, row)
     }
 }
 
@@ -129,36 +118,30 @@ fn range_command(place: u64, row: &ByteRecord) -> Result<MapCommand, Code>
 fn entry_command(place: u64, row: &ByteRecord) -> Result<MapCommand, Code>
     ensures { result ≡ entry_command place (fields_of row.now) }
 {
-    match field_at(row, 0) {
-        b"get" => {
-            let (m, k) = register_number(row)?;
-            Ok(MapCommand::Get { place, m, k })
-        }
-        b"size" => {
-            let m = register(row)?;
-            Ok(MapCommand::Size { place, m })
-        }
-        b"fold" => {
-            let m = register(row)?;
-            Ok(MapCommand::Fold { place, m })
-        }
-        b"rank" => {
-            let (m, k) = register_number(row)?;
-            Ok(MapCommand::Rank { place, m, k })
-        }
-        b"select" => {
-            let (m, i) = register_number(row)?;
-            Ok(MapCommand::Select { place, m, i })
-        }
-        b"next" => {
-            let (m, k) = register_number(row)?;
-            Ok(MapCommand::Next { place, m, k })
-        }
-        b"prev" => {
-            let (m, k) = register_number(row)?;
-            Ok(MapCommand::Prev { place, m, k })
-        }
-        _ => range_command(place, row),
+    let verb = field_at(row, 0);
+    if verb == b"get".as_slice() {
+        let (m, k) = register_number(row)?;
+        Ok(MapCommand::Get { place, m, k })
+    } else if verb == b"size".as_slice() {
+        let m = register(row)?;
+        Ok(MapCommand::Size { place, m })
+    } else if verb == b"fold".as_slice() {
+        let m = register(row)?;
+        Ok(MapCommand::Fold { place, m })
+    } else if verb == b"rank".as_slice() {
+        let (m, k) = register_number(row)?;
+        Ok(MapCommand::Rank { place, m, k })
+    } else if verb == b"select".as_slice() {
+        let (m, i) = register_number(row)?;
+        Ok(MapCommand::Select { place, m, i })
+    } else if verb == b"next".as_slice() {
+        let (m, k) = register_number(row)?;
+        Ok(MapCommand::Next { place, m, k })
+    } else if verb == b"prev".as_slice() {
+        let (m, k) = register_number(row)?;
+        Ok(MapCommand::Prev { place, m, k })
+    } else {
+        range_command(place, row)
     }
 }
 
@@ -167,32 +150,27 @@ impl Command for MapCommand {
 
     #[tactic(auto, unfolding(crate::specs::Map::map_command))]
     fn read(alloc: Global, place: u64, row: &ByteRecord) -> Result<MapCommand, RecordFault> {
-        match field_at(row, 0) {
-            b"put" => {
-                let (d, k, v) = register_number_number(row)?;
-                Ok(MapCommand::Put { place, d, k, v })
-            }
-            b"del" => {
-                let (d, k) = register_number(row)?;
-                Ok(MapCommand::Del { place, d, k })
-            }
-            b"clear" => {
-                let d = register(row)?;
-                Ok(MapCommand::Clear { place, d })
-            }
-            b"build" => {
-                let (d, pairs) = register_pairs(alloc, row)?;
-                Ok(MapCommand::Build { place, d, pairs })
-            }
-            b"mput" => {
-                let (d, pairs) = register_some_pairs(alloc, row)?;
-                Ok(MapCommand::Mput { place, d, pairs })
-            }
-            b"mdel" => {
-                let (d, keys) = register_numbers(alloc, row)?;
-                Ok(MapCommand::Mdel { place, d, keys })
-            }
-            _ => Ok(entry_command(place, row)?),
+        let verb = field_at(row, 0);
+        if verb == b"put".as_slice() {
+            let (d, k, v) = register_number_number(row)?;
+            Ok(MapCommand::Put { place, d, k, v })
+        } else if verb == b"del".as_slice() {
+            let (d, k) = register_number(row)?;
+            Ok(MapCommand::Del { place, d, k })
+        } else if verb == b"clear".as_slice() {
+            let d = register(row)?;
+            Ok(MapCommand::Clear { place, d })
+        } else if verb == b"build".as_slice() {
+            let (d, pairs) = register_pairs(alloc, row)?;
+            Ok(MapCommand::Build { place, d, pairs })
+        } else if verb == b"mput".as_slice() {
+            let (d, pairs) = register_some_pairs(alloc, row)?;
+            Ok(MapCommand::Mput { place, d, pairs })
+        } else if verb == b"mdel".as_slice() {
+            let (d, keys) = register_numbers(alloc, row)?;
+            Ok(MapCommand::Mdel { place, d, keys })
+        } else {
+            Ok(entry_command(place, row)?)
         }
     }
 }
