@@ -1,10 +1,9 @@
 -- The numbers or the pairs so far, and those of the fields that are left.
-use Rattle.std.proofs.Common.{◌≡◌, ◌∙◌, ◌+◌, ◌<◌, ◌≤◌, ◌++◌, ℕ, suc, List, [], ◌∷◌, Result, Ok, Err, length, drop, get_or, refl, ap, arith, add-one, drop-cons, append-nil}
+use Rattle.std.proofs.Common.{◌≡◌, ◌∙◌, ◌+◌, ◌<◌, ◌≤◌, ◌++◌, ℕ, suc, List, [], ◌∷◌, Ok, Err, length, drop, get_or, refl, ap, arith, add-one, drop-cons, append-nil}
 use Rattle.std.proofs.lemmas.List.{drop_all}
 use Rattle.aug_monoid.specs.declared.pair64.Pair64.{Pair64}
 use Rattle.script.specs.Fields.{number_in, numbers_of, pair_of, pairs_of}
 use Rattle.script.specs.Records.{Fields}
-use Rattle.script.specs.Results.{◌>>=◌}
 use Rattle.script.specs.declared.fault.Code.{Code}
 use Rattle.script.proofs.CommandFacts.{after, with_front}
 
