@@ -65,13 +65,13 @@ fn run(
 
 /// Runs a row in pieces of 1 byte on one worker, and in pieces of 7 bytes on many.
 fn check(rt: &(impl Abort + Threads + Sync), alloc: Global, row: &Row) -> Result<(), Fail> {
-    let ways: [(usize, &str); 2] = [(1, "1"), (7, "64")];
-    for (piece, workers) in ways {
+    for piece in [1, 7] {
         let edge = Edge {
             piece,
             reads: &[],
             writes: &[],
         };
+        let workers = if piece == 1 { "1" } else { "64" };
         let words = ["--workers", workers, "--grain", "1", "map"];
         let (status, text) = run(rt, alloc, &words, row.input, &edge)?;
         assert_eq!(rt; status, row.status);
