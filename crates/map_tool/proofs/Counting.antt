@@ -1,5 +1,5 @@
 -- Counts of entries, met with saturation.
-use Rattle.std.proofs.Common.{◌≡◌, ℕ, ◌+◌, ◌-◌, ◌^◌, ◌≤◌, ◌<◌, ◌&&◌, Bool, true, false, cond, List, [], ◌∷◌, length, min, refl, ap, ◌∙◌, arith}
+use Rattle.std.proofs.Common.{◌≡◌, ℕ, ◌+◌, ◌-◌, ◌^◌, ◌<◌, Bool, true, false, cond, List, [], ◌∷◌, length, min, refl, arith}
 use Rattle.std.specs.List.{filter}
 use Rattle.map_model.specs.Fold.{reduce}
 use Rattle.map_model.proofs.Lengths.{length-filter_le}

@@ -1,5 +1,5 @@
 -- Two maps that don't overlap: each key of the first is less than each key of the second.
-use Rattle.std.proofs.Common.{◌≡◌, ℕ, ◌<◌, ◌-◌, true, false, not, List, [], ◌∷◌, length, Option, Some, refl, sym, ap, subst, ◌∙◌, nat_lt, arith}
+use Rattle.std.proofs.Common.{◌≡◌, ℕ, ◌-◌, false, not, List, [], ◌∷◌, length, Some, refl, sym, ap, subst, ◌∙◌, nat_lt, arith}
 use Rattle.std.specs.Prelude.{slice_get}
 use Rattle.std.specs.Cmp.{nat_cmp_total}
 use Rattle.std.specs.Ordering.{nat_cmp}

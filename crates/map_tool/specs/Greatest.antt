@@ -1,5 +1,5 @@
 -- The greatest of a map's values, from the totals of its parts.
-use Rattle.std.proofs.Common.{◌≡◌, ℕ, ◌-◌, ◌^◌, ◌≤◌, ◌<◌, ◌||◌, Bool, true, false, List, [], ◌∷◌, ◌++◌, min, max, nat_le, refl, ap, arith}
+use Rattle.std.proofs.Common.{◌≡◌, ℕ, ◌-◌, ◌^◌, ◌≤◌, ◌||◌, max, nat_le, ap, arith}
 use Rattle.std.specs.Ordering.{nat_cmp}
 use Rattle.aug_monoid.specs.Totals.{TotalsFit, totals_base, totals_base_fits, totals_combine, totals_monoid, totals_unit}
 use Rattle.aug_monoid.specs.declared.totals.Totals.{Totals}

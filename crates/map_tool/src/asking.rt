@@ -115,7 +115,7 @@ pub(crate) fn rank<C: Ledger>(
     requires low { m < 16 }
     ensures { IfOk result (λ effect. seen effect ≡ replies (line_of (codes "rank") (rank nat_cmp (register (maps_of registers.now) m) k ∷ []))) }
 {
-    reply(alloc, "rank", &[0])
+    reply(alloc, "rank", &[map_at(registers, m).rank(&k, steps)])
 }
 
 pub(crate) fn select(
