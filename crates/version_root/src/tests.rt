@@ -37,33 +37,45 @@ fn longer<R: Threads + Sync>(
         .extend(rt, alloc, &FreeGate, Cut::new(1, 1024), &entries)
 }
 
-#[test]
-fn a_notice_shows_what_was_published(rt: HostRuntime) -> Result<(), Fail> {
-    let alloc = rt.alloc();
+/// A root with one reader.
+fn one_reader(
+    alloc: Global,
+    door: &Arc<AtomicU64>,
+) -> Result<(Writer<Guarded>, Reader<Guarded>), NoMemory>
+    ensures { IfOk result (λ ends. ends.1.root ≡ ends.0.root) }
+{
+    let (writer, mut readers) = start(alloc, Guarded::new(Arc::try_clone(door)?, 0), 1)?;
+    let reader = readers.pop().ok_or(NoMemory)?;
+    Ok((writer, reader))
+}
+
+/// The numbers and totals that a reader sees before a version is published, and after it is told of it.
+fn seen<R: Threads + Wait + Sync>(
+    rt: &R,
+    alloc: Global,
+    mut writer: Writer<Guarded>,
+    mut reader: Reader<Guarded>,
+) -> Result<[(u64, u64); 2], NoMemory>
+    requires { reader.root ≡ writer.root }
+{
+    let first = reader.snapshot(rt, alloc)?;
+    let version = longer(rt, alloc, &writer, 10)?;
+    writer.publish(rt, alloc, version)?;
+    reader.learn(writer.tell()?);
+    let second = reader.snapshot(rt, alloc)?;
+    writer.meet(rt, reader.note()?);
+    Ok([first, second].map(|version| (version.number(), version.state().total)))
+}
+
+fn told<R: Threads + Wait + Sync>(rt: &R, alloc: Global) -> Result<[(u64, u64); 2], NoMemory> {
     let door = Arc::new(alloc, AtomicU64::new(OPEN))?;
-    let (mut writer, mut readers) = start(alloc, Guarded::new(door, 0), 1)?;
-    let mut reader = readers.pop().ok_or("one reader")?;
-    let first = reader.snapshot(&rt, alloc)?;
-    let second = longer(&rt, alloc, &writer, 10)?;
-    writer.publish(&rt, alloc, second)?;
-    let notice = writer.tell()?;
-    reader.learn(notice);
-    let second = reader.snapshot(&rt, alloc)?;
-    assert_eq!(rt; (first.number(), first.state().total), (0, 0));
-    assert_eq!(rt; (second.number(), second.state().total), (1, 10));
-    assert!(rt; reader.try_snapshot(alloc).is_ok());
-    assert_eq!(rt; reader.number(), 2);
-    Ok(())
+    let (writer, reader) = one_reader(alloc, &door)?;
+    seen(rt, alloc, writer, reader)
 }
 
 #[test]
-fn a_writer_meets_a_note(rt: HostRuntime) -> Result<(), Fail> {
-    let alloc = rt.alloc();
-    let door = Arc::new(alloc, AtomicU64::new(OPEN))?;
-    let (mut writer, mut readers) = start(alloc, Guarded::new(door, 0), 1)?;
-    let mut reader = readers.pop().ok_or("one reader")?;
-    writer.meet(&rt, reader.note()?);
-    assert_eq!(rt; writer.current().number(), 0);
+fn a_notice_shows_what_was_published(rt: HostRuntime) -> Result<(), Fail> {
+    assert_eq!(rt; told(&rt, rt.alloc())?, [(0, 0), (1, 10)]);
     Ok(())
 }
 
@@ -97,20 +109,26 @@ fn run<R: Threads + Wait + Sync>(rt: &R, alloc: Global, end: End) -> Result<bool
     }
 }
 
-#[test]
-fn numbers_never_fall(rt: HostRuntime) -> Result<(), Fail> {
-    let alloc = rt.alloc();
+/// The ends of a root with 20 readers.
+fn many_ends(alloc: Global) -> Result<Vec<End>, NoMemory> {
     let door = Arc::new(alloc, AtomicU64::new(OPEN))?;
     let (writer, readers) = start(alloc, Guarded::new(door, 0), 20)?;
-    let mut ends = Vec::new(alloc);
+    let mut ends = Vec::with_capacity(alloc, 21)?;
     ends.push(End::Writer(writer))?;
     for reader in readers {
         ends.push(End::Reader(reader))?;
     }
-    let answers = thread::map_vec(&rt, ends, &|end| run(&rt, alloc, end))?;
-    for answer in answers {
-        assert!(rt; matches!(answer, Ok(true)));
-    }
+    Ok(ends)
+}
+
+fn never_fell<R: Threads + Wait + Sync>(rt: &R, alloc: Global) -> Result<bool, NoMemory> {
+    let answers = thread::map_vec(rt, many_ends(alloc)?, &|end| run(rt, alloc, end))?;
+    Ok(answers.iter().all(|answer| matches!(answer, Ok(true))))
+}
+
+#[test]
+fn numbers_never_fall(rt: HostRuntime) -> Result<(), Fail> {
+    assert!(rt; never_fell(&rt, rt.alloc())?);
     Ok(())
 }
 
@@ -137,48 +155,77 @@ fn try_while_held<R: Wait>(
     Ok((found, version.number()))
 }
 
-#[test]
-fn a_held_turn_is_busy(rt: HostRuntime) -> Result<(), Fail> {
-    let alloc = rt.alloc();
-    let door = Arc::new(alloc, AtomicU64::new(OPEN))?;
-    let (_writer, mut readers) = start(alloc, Guarded::new(Arc::try_clone(&door)?, 0), 9)?;
-    let last = readers
-        .pop()
-        .ok_or("the reader of the first stripe with number 10")?;
+/// The readers with the numbers 2 and 10 of a root with 8 stripes, who share the first one.
+fn of_one_stripe(
+    alloc: Global,
+    door: &Arc<AtomicU64>,
+) -> Result<(Reader<Guarded>, Reader<Guarded>), NoMemory> {
+    let (_writer, mut readers) = start(alloc, Guarded::new(Arc::try_clone(door)?, 0), 9)?;
+    let last = readers.pop().ok_or(NoMemory)?;
     readers.truncate(1);
-    let mut first = readers
-        .pop()
-        .ok_or("the reader of the first stripe with number 2")?;
-    assert_eq!(rt; (first.number(), last.number()), (2, 10));
+    let first = readers.pop().ok_or(NoMemory)?;
+    Ok((first, last))
+}
+
+/// The first reader's copy is held up while the second one tries.
+fn tried<R: Threads + Wait + Sync>(rt: &R, alloc: Global) -> Result<(u64, u64), NoMemory> {
+    let door = Arc::new(alloc, AtomicU64::new(OPEN))?;
+    let (mut first, last) = of_one_stripe(alloc, &door)?;
     door.store(TRAP, Ordering::SeqCst);
     let (held, tried) = thread::join(
-        &rt,
-        move || first.snapshot(&rt, alloc),
-        || try_while_held(&rt, alloc, &door, last),
+        rt,
+        move || first.snapshot(rt, alloc),
+        || try_while_held(rt, alloc, &door, last),
     );
-    assert!(rt; held.is_ok());
-    assert_eq!(rt; tried?, (2, 0));
+    held?;
+    tried
+}
+
+#[test]
+fn a_held_turn_is_busy(rt: HostRuntime) -> Result<(), Fail> {
+    assert_eq!(rt; tried(&rt, rt.alloc())?, (2, 0));
     Ok(())
+}
+
+/// Whether each call that may want a copy is refused.
+fn all_refused<R: Threads + Wait + Sync>(
+    rt: &R,
+    alloc: Global,
+    door: &Arc<AtomicU64>,
+    writer: &mut Writer<Guarded>,
+    reader: &mut Reader<Guarded>,
+    version: Version<Guarded>,
+) -> bool
+    requires base { version.base ≡ writer.old.base }
+    requires grows { IsPrefix writer.old.journal version.journal }
+{
+    let no_root = one_reader(alloc, door).is_err();
+    let no_try = matches!(reader.try_snapshot(alloc), Err(Missed::NoMemory));
+    let no_snapshot = reader.snapshot(rt, alloc).is_err();
+    let no_version = longer(rt, alloc, writer, 30).is_err();
+    let no_publish = writer.publish(rt, alloc, version).is_err();
+    no_root && no_try && no_snapshot && no_version && no_publish
+}
+
+/// Whether copies are refused while the door is shut, and then the reader's number and total, and the writer's number.
+fn refused<R: Threads + Wait + Sync>(
+    rt: &R,
+    alloc: Global,
+) -> Result<(bool, u64, u64, u64), NoMemory> {
+    let door = Arc::new(alloc, AtomicU64::new(OPEN))?;
+    let (mut writer, mut reader) = one_reader(alloc, &door)?;
+    let second = longer(rt, alloc, &writer, 10)?;
+    writer.publish(rt, alloc, second)?;
+    let third = longer(rt, alloc, &writer, 20)?;
+    door.store(SHUT, Ordering::SeqCst);
+    let all = all_refused(rt, alloc, &door, &mut writer, &mut reader, third);
+    door.store(OPEN, Ordering::SeqCst);
+    let now = reader.snapshot(rt, alloc)?;
+    Ok((all, now.number(), now.state().total, writer.current().number()))
 }
 
 #[test]
 fn refused_copies_leave_the_root_as_it_was(rt: HostRuntime) -> Result<(), Fail> {
-    let alloc = rt.alloc();
-    let door = Arc::new(alloc, AtomicU64::new(OPEN))?;
-    let (mut writer, mut readers) = start(alloc, Guarded::new(Arc::try_clone(&door)?, 0), 1)?;
-    let mut reader = readers.pop().ok_or("one reader")?;
-    let second = longer(&rt, alloc, &writer, 10)?;
-    writer.publish(&rt, alloc, second)?;
-    let third = longer(&rt, alloc, &writer, 20)?;
-    door.store(SHUT, Ordering::SeqCst);
-    assert!(rt; start(alloc, Guarded::new(Arc::try_clone(&door)?, 0), 1).is_err());
-    assert!(rt; matches!(reader.try_snapshot(alloc), Err(Missed::NoMemory)));
-    assert!(rt; reader.snapshot(&rt, alloc).is_err());
-    assert!(rt; longer(&rt, alloc, &writer, 30).is_err());
-    assert!(rt; writer.publish(&rt, alloc, third).is_err());
-    door.store(OPEN, Ordering::SeqCst);
-    let version = reader.snapshot(&rt, alloc)?;
-    assert_eq!(rt; (version.number(), version.state().total), (1, 10));
-    assert_eq!(rt; writer.current().number(), 1);
+    assert_eq!(rt; refused(&rt, rt.alloc())?, (true, 1, 10, 1));
     Ok(())
 }
