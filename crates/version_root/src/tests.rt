@@ -221,7 +221,12 @@ fn refused<R: Threads + Wait + Sync>(
     let all = all_refused(rt, alloc, &door, &mut writer, &mut reader, third);
     door.store(OPEN, Ordering::SeqCst);
     let now = reader.snapshot(rt, alloc)?;
-    Ok((all, now.number(), now.state().total, writer.current().number()))
+    Ok((
+        all,
+        now.number(),
+        now.state().total,
+        writer.current().number(),
+    ))
 }
 
 #[test]
