@@ -1,5 +1,0 @@
-pub mod Seats
-pub mod Root
-pub mod Steps
-pub mod Answers
-pub mod Sums
