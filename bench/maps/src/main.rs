@@ -199,7 +199,7 @@ fn map_reduce(size: u64, seed: u64) {
     let start = Instant::now();
     let sum = map
         .iter()
-        .fold(0u64, |sum, (k, v)| sum.saturating_add(k ^ v));
+        .fold(0u64, |sum, (k, v)| sum.saturating_add(k.saturating_add(*v)));
     report(sum, start);
 }
 

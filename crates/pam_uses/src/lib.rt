@@ -1,0 +1,5 @@
+//! The program in threads that overlap.
+#![tactic(auto)]
+
+#[cfg(test)]
+mod tests;
