@@ -11,30 +11,30 @@ use std::alloc::Global;
 use std::marker::{Brand, Send, Sync};
 use std::sync::ledger::{Blank, Ledger};
 use std::test::Fail;
-use tree_base::Tree;
+use tree_base::{BlockSize, TreeOver, Width};
 use tree_points::{del, get, put, single};
 
 /// A map of two entries without the first, its fold, and the value at its key.
 #[derive(Drop)]
-struct Left<A: Augment, L: Leaf<A::Key, A::Val>, const B: usize> {
-    tree: Tree<A, L, B>,
+struct Left<A: Augment, L: Leaf<A::Key, A::Val>, S: BlockSize> {
+    tree: TreeOver<A, L, S>,
     fold: Option<A::Aug>,
     val: Option<A::Val>,
 }
 
-fn left_counted<A: Augment, L: Leaf<A::Key, A::Val>, const B: usize, C: Ledger>(
+fn left_counted<A: Augment, L: Leaf<A::Key, A::Val>, S: BlockSize, C: Ledger>(
     alloc: Global,
     first: (A::Key, A::Val),
     second: (A::Key, A::Val),
     blank: Blank,
-) -> Result<Left<A, L, B>, NoMemory>
-    requires block_size { IsBlockSize B }
+) -> Result<Left<A, L, S>, NoMemory>
+    requires block_size { IsBlockSize S.SIZE }
     requires name { blank.name ≡ C.name }
     requires parts { blank.parts ≡ C.parts }
     requires some { 0 < blank.parts }
 {
     let mut steps = Steps::<C>::start(blank);
-    let one: Tree<A, L, B> = single(alloc, first.0.share(alloc)?, first.1)?;
+    let one: TreeOver<A, L, S> = single(alloc, first.0.share(alloc)?, first.1)?;
     let two = put(alloc, &one, second.0.share(alloc)?, second.1, &mut steps)?;
     let left = del(alloc, &two, &first.0, &mut steps)?;
     let val = get(alloc, &left, &second.0, &mut steps)?;
@@ -46,21 +46,25 @@ fn left_counted<A: Augment, L: Leaf<A::Key, A::Val>, const B: usize, C: Ledger>(
     Ok(Left { tree, fold, val })
 }
 
-fn left_of_two<A: Augment, L: Leaf<A::Key, A::Val>, const B: usize>(
+fn left_of_two<A: Augment, L: Leaf<A::Key, A::Val>, S: BlockSize>(
     alloc: Global,
     first: (A::Key, A::Val),
     second: (A::Key, A::Val),
-) -> Result<Left<A, L, B>, NoMemory>
-    requires { IsBlockSize B }
+) -> Result<Left<A, L, S>, NoMemory>
+    requires { IsBlockSize S.SIZE }
 {
-    left_counted::<A, L, B, Brand>(alloc, first, second, Blank::new(1))
+    left_counted::<A, L, S, Brand>(alloc, first, second, Blank::new(1))
 }
 
 fn crosses<T: Send + Sync>(_value: &T) {}
 
 #[test]
 fn maps_with_sums(rt: HostRuntime) -> Result<(), Fail> {
-    let left = left_of_two::<SumMax<u64>, PlainLeaf<u64, u64>, 1>(rt.alloc(), (7, 70), (8, 80))?;
+    let left = left_of_two::<SumMax<u64>, PlainLeaf<u64, u64>, Width<1>>(
+        rt.alloc(),
+        (7, 70),
+        (8, 80),
+    )?;
     let totals = Totals {
         sum: 80,
         greatest: 80,
@@ -75,11 +79,15 @@ fn maps_with_sums(rt: HostRuntime) -> Result<(), Fail> {
 #[test]
 fn maps_of_coded_leaves(rt: HostRuntime) -> Result<(), Fail> {
     let alloc = rt.alloc();
-    let values = left_of_two::<Nothing<u64, u64>, DiffLeaf<u64>, 32>(alloc, (7, 70), (8, 80))?;
+    let values = left_of_two::<Nothing<u64, u64>, DiffLeaf<u64>, Width<32>>(
+        alloc,
+        (7, 70),
+        (8, 80),
+    )?;
     crosses(&values.tree);
     assert_eq!(rt; values.tree.size(), 1);
     assert_eq!(rt; values.val, Some(80));
-    let keys = left_of_two::<Nothing<u64, ()>, DiffLeaf<()>, 2>(alloc, (7, ()), (8, ()))?;
+    let keys = left_of_two::<Nothing<u64, ()>, DiffLeaf<()>, Width<2>>(alloc, (7, ()), (8, ()))?;
     assert_eq!(rt; keys.val, Some(()));
     Ok(())
 }
@@ -94,7 +102,7 @@ fn maps_of_intervals(rt: HostRuntime) -> Result<(), Fail> {
         first: 2,
         second: 3,
     };
-    let left = left_of_two::<MaxRight, PlainLeaf<Pair64, ()>, 2>(
+    let left = left_of_two::<MaxRight, PlainLeaf<Pair64, ()>, Width<2>>(
         rt.alloc(),
         (wide, ()),
         (short, ()),
@@ -105,7 +113,7 @@ fn maps_of_intervals(rt: HostRuntime) -> Result<(), Fail> {
 
 #[test]
 fn maps_with_two_folds(rt: HostRuntime) -> Result<(), Fail> {
-    let left = left_of_two::<Pair<SumMax<u64>, Nothing<u64, u64>>, PlainLeaf<u64, u64>, 128>(
+    let left = left_of_two::<Pair<SumMax<u64>, Nothing<u64, u64>>, PlainLeaf<u64, u64>, Width<128>>(
         rt.alloc(),
         (7, 70),
         (8, 80),

@@ -25,31 +25,31 @@ pub(crate) fn listed<A: Augment, L: Leaf<A::Key, A::Val>, S: BlockSize>(
     Ok(entries)
 }
 
-/// The keys from 1 to a number, put in rising order, each with itself as value.
+/// The keys from 1 to below a number, put in rising order, each with itself as value.
 pub(crate) fn rising<S: BlockSize, C: Ledger>(
     alloc: Global,
-    count: u64,
+    end: u64,
     steps: &mut Steps<C>,
 ) -> Result<Sums<S>, NoMemory>
     requires { IsBlockSize S.SIZE }
 {
     let mut tree: Sums<S> = TreeOver::empty();
-    for before in 0..count {
-        tree = put(alloc, &tree, before + 1, before + 1, steps)?;
+    for key in 1..end {
+        tree = put(alloc, &tree, key, key, steps)?;
     }
     Ok(tree)
 }
 
-/// A map without the keys from 1 to a number, which are taken away in rising order.
+/// A map without the keys from 1 to below a number, which are taken away in rising order.
 fn without_front<S: BlockSize, C: Ledger>(
     alloc: Global,
     tree: Sums<S>,
-    count: u64,
+    end: u64,
     steps: &mut Steps<C>,
 ) -> Result<Sums<S>, NoMemory> {
     let mut tree = tree;
-    for before in 0..count {
-        tree = del(alloc, &tree, &(before + 1), steps)?;
+    for key in 1..end {
+        tree = del(alloc, &tree, &key, steps)?;
     }
     Ok(tree)
 }
@@ -65,11 +65,11 @@ fn sizes_counted<S: BlockSize, C: Ledger>(
     requires some { 0 < blank.parts }
 {
     let mut steps = Steps::<C>::start(blank);
-    let tree: Sums<S> = rising(alloc, 1000, &mut steps)?;
+    let tree: Sums<S> = rising(alloc, 1001, &mut steps)?;
     let all = tree.size();
-    let later = without_front(alloc, tree, 500, &mut steps)?;
+    let later = without_front(alloc, tree, 501, &mut steps)?;
     let half = later.size();
-    let none = without_front(alloc, later, 1000, &mut steps)?;
+    let none = without_front(alloc, later, 1001, &mut steps)?;
     Ok((all, half, none.size()))
 }
 
@@ -88,16 +88,17 @@ fn keys_go_as_they_came(rt: HostRuntime) -> Result<(), Fail> {
     Ok(())
 }
 
-/// The height of a map whose entries are the keys from 1 to a number, each with itself as value; none of any other map.
+/// The height of a map whose entries are the keys from 1 to below a number, each with itself as value; none of any other
+/// map.
 fn height_of_first<S: BlockSize>(
     alloc: Global,
     tree: &Sums<S>,
-    last: u64,
+    end: u64,
 ) -> Result<Option<u32>, NoMemory> {
     let entries = listed(alloc, tree)?;
     let mut expected = Vec::new(alloc);
-    for before in 0..last {
-        expected.push((before + 1, before + 1))?;
+    for key in 1..end {
+        expected.push((key, key))?;
     }
     Ok(if entries == expected {
         Some(tree.height())
@@ -117,7 +118,7 @@ fn rising_heights<S: BlockSize, C: Ledger>(
     let mut heights = Vec::new(alloc);
     for key in 1..10 {
         tree = put(alloc, &tree, key, key, steps)?;
-        heights.push(height_of_first(alloc, &tree, key)?)?;
+        heights.push(height_of_first(alloc, &tree, key + 1)?)?;
     }
     Ok((tree, heights))
 }
@@ -131,8 +132,9 @@ fn falling_heights<S: BlockSize, C: Ledger>(
     let mut tree = tree;
     let mut heights = Vec::new(alloc);
     for gone in 0..9 {
-        tree = del(alloc, &tree, &(9 - gone), steps)?;
-        heights.push(height_of_first(alloc, &tree, 8 - gone)?)?;
+        let key = 9 - gone;
+        tree = del(alloc, &tree, &key, steps)?;
+        heights.push(height_of_first(alloc, &tree, key)?)?;
     }
     Ok(heights)
 }

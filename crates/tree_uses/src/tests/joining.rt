@@ -61,7 +61,7 @@ fn around_counted<S: BlockSize, C: Ledger>(
     requires some { 0 < blank.parts }
 {
     let mut steps = Steps::<C>::start(blank);
-    let tree: Sums<S> = rising(alloc, 100002, &mut steps)?;
+    let tree: Sums<S> = rising(alloc, 100003, &mut steps)?;
     let low = joined_around(alloc, &tree, 2, &mut steps)?;
     let high = joined_around(alloc, &tree, 100001, &mut steps)?;
     Ok([low, high])

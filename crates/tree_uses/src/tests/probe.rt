@@ -1,5 +1,5 @@
 //! A key that counts its comparisons, and whose shares can be refused.
-ghost use Rattle.std.specs.Prelude.{◌≡◌, ◌+◌, refl};
+ghost use Rattle.std.specs.Prelude.{◌≡◌, ◌+◌, ◌==◌, IfOk, refl};
 ghost use Rattle.std.proofs.Common.{rules};
 ghost use Rattle.std.specs.Cmp.{nat_cmp_total, partial_order_from_own_ties};
 ghost use Rattle.std.specs.Cmp.Rules.{comparing};
@@ -59,7 +59,9 @@ impl Model for ProbeKey {
 }
 
 impl ProbeKey {
-    pub(crate) fn new(number: u64, probe: &Arc<Probe>) -> Result<ProbeKey, NoMemory> {
+    pub(crate) fn new(number: u64, probe: &Arc<Probe>) -> Result<ProbeKey, NoMemory>
+        ensures { IfOk result (λ key. key ≡ number) }
+    {
         let probe = Arc::try_clone(probe)?;
         Ok(ProbeKey { number, probe })
     }

@@ -98,7 +98,7 @@ fn refused_counted<S: BlockSize, C: Ledger>(
 {
     let mut steps = Steps::<C>::start(blank);
     let probe = Probe::start(alloc)?;
-    let tree: Watched<S> = rising_watched(alloc, &probe, 9, &mut steps)?;
+    let tree: Watched<S> = rising_watched(alloc, &probe, 10, &mut steps)?;
     let before = numbers(alloc, &tree)?;
     let points = refused_points(alloc, &probe, &tree, &mut steps)?;
     let joins = refused_joins(alloc, &probe, &tree, &mut steps)?;
@@ -199,7 +199,7 @@ fn overfull_counted<S: BlockSize, C: Ledger>(
     for key in 1..10 {
         tree = put(alloc, &tree, key, key, &mut steps)?;
     }
-    let refused = put(alloc, &tree, 10, u64::MAX - 44, &mut steps).is_err();
+    let refused = put(alloc, &tree, 10, u64::MAX, &mut steps).is_err();
     Ok((refused, tree.aug().copied(), tree.size()))
 }
 

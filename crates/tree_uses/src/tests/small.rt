@@ -31,7 +31,7 @@ fn parted_counted<S: BlockSize, C: Ledger>(alloc: Global, blank: Blank) -> Resul
     requires some { 0 < blank.parts }
 {
     let mut steps = Steps::<C>::start(blank);
-    let tree: Sums<S> = rising(alloc, 3, &mut steps)?;
+    let tree: Sums<S> = rising(alloc, 4, &mut steps)?;
     let parts = split(alloc, &tree, &2, &mut steps)?;
     let whole = join(alloc, &parts.below, 2, 2, &parts.above, &mut steps)?;
     Ok(Pieces {
@@ -65,10 +65,10 @@ fn three_keys_apart_and_together(rt: HostRuntime) -> Result<(), Fail> {
     Ok(())
 }
 
-/// The keys before and after the entry at the top of the map of the keys from 1 to a number, and that entry's key.
+/// The keys before and after the entry at the top of the map of the keys from 1 to below a number, and that entry's key.
 fn exposed_counted<S: BlockSize, C: Ledger>(
     alloc: Global,
-    count: u64,
+    end: u64,
     blank: Blank,
 ) -> Result<Option<(u64, u64, u64)>, NoMemory>
     requires block_size { IsBlockSize S.SIZE }
@@ -77,25 +77,25 @@ fn exposed_counted<S: BlockSize, C: Ledger>(
     requires some { 0 < blank.parts }
 {
     let mut steps = Steps::<C>::start(blank);
-    let tree: Sums<S> = rising(alloc, count, &mut steps)?;
+    let tree: Sums<S> = rising(alloc, end, &mut steps)?;
     Ok(match expose(alloc, &tree)? {
         Some(sides) => Some((sides.left.size(), sides.key, sides.right.size())),
         None => None,
     })
 }
 
-fn exposed<S: BlockSize>(alloc: Global, count: u64) -> Result<Option<(u64, u64, u64)>, NoMemory>
+fn exposed<S: BlockSize>(alloc: Global, end: u64) -> Result<Option<(u64, u64, u64)>, NoMemory>
     requires { IsBlockSize S.SIZE }
 {
-    exposed_counted::<S, Brand>(alloc, count, Blank::new(1))
+    exposed_counted::<S, Brand>(alloc, end, Blank::new(1))
 }
 
 #[test]
 fn small_maps_are_halved(rt: HostRuntime) -> Result<(), Fail> {
     let alloc = rt.alloc();
-    assert_eq!(rt; exposed::<Width<1>>(alloc, 3)?, Some((1, 2, 1)));
-    assert_eq!(rt; exposed::<Width<32>>(alloc, 3)?, Some((1, 2, 1)));
-    assert_eq!(rt; exposed::<Width<32>>(alloc, 0)?, None);
+    assert_eq!(rt; exposed::<Width<1>>(alloc, 4)?, Some((1, 2, 1)));
+    assert_eq!(rt; exposed::<Width<32>>(alloc, 4)?, Some((1, 2, 1)));
+    assert_eq!(rt; exposed::<Width<32>>(alloc, 1)?, None);
     Ok(())
 }
 

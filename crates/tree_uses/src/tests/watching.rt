@@ -15,19 +15,19 @@ use tree_points::{get, put};
 
 pub(crate) type Watched<S> = TreeOver<Nothing<ProbeKey, u64>, PlainLeaf<ProbeKey, u64>, S>;
 
-/// The keys from 1 to a number, put in rising order, each with its number as value.
+/// The keys from 1 to below a number, put in rising order, each with its number as value.
 pub(crate) fn rising_watched<S: BlockSize, C: Ledger>(
     alloc: Global,
     probe: &Arc<Probe>,
-    count: u64,
+    end: u64,
     steps: &mut Steps<C>,
 ) -> Result<Watched<S>, NoMemory>
     requires { IsBlockSize S.SIZE }
 {
     let mut tree: Watched<S> = TreeOver::empty();
-    for before in 0..count {
-        let key = ProbeKey::new(before + 1, probe)?;
-        tree = put(alloc, &tree, key, before + 1, steps)?;
+    for number in 1..end {
+        let key = ProbeKey::new(number, probe)?;
+        tree = put(alloc, &tree, key, number, steps)?;
     }
     Ok(tree)
 }
@@ -89,7 +89,7 @@ fn lookups_counted<S: BlockSize, C: Ledger>(
 {
     let mut steps = Steps::<C>::start(blank);
     let probe = Probe::start(alloc)?;
-    let tree: Watched<S> = rising_watched(alloc, &probe, 100000, &mut steps)?;
+    let tree: Watched<S> = rising_watched(alloc, &probe, 100001, &mut steps)?;
     let lookups = watched_lookups(alloc, &probe, &tree, 100002, &mut steps)?;
     Ok((lookups, tree.height()))
 }
