@@ -22,6 +22,26 @@ struct Left<A: Augment, L: Leaf<A::Key, A::Val>, S: BlockSize> {
     val: Option<A::Val>,
 }
 
+fn left_in<A: Augment, L: Leaf<A::Key, A::Val>, S: BlockSize, C: Ledger>(
+    alloc: Global,
+    first: (A::Key, A::Val),
+    second: (A::Key, A::Val),
+    steps: &mut Steps<C>,
+) -> Result<Left<A, L, S>, NoMemory>
+    requires block_size { IsBlockSize S.SIZE }
+{
+    let one: TreeOver<A, L, S> = single(alloc, first.0.share(alloc)?, first.1)?;
+    let two = put(alloc, &one, second.0.share(alloc)?, second.1, steps)?;
+    let left = del(alloc, &two, &first.0, steps)?;
+    let val = get(alloc, &left, &second.0, steps)?;
+    let fold = match left.aug() {
+        Some(fold) => Some(fold.share(alloc)?),
+        None => None,
+    };
+    let tree = left.share(alloc)?;
+    Ok(Left { tree, fold, val })
+}
+
 fn left_counted<A: Augment, L: Leaf<A::Key, A::Val>, S: BlockSize, C: Ledger>(
     alloc: Global,
     first: (A::Key, A::Val),
@@ -34,16 +54,7 @@ fn left_counted<A: Augment, L: Leaf<A::Key, A::Val>, S: BlockSize, C: Ledger>(
     requires some { 0 < blank.parts }
 {
     let mut steps = Steps::<C>::start(blank);
-    let one: TreeOver<A, L, S> = single(alloc, first.0.share(alloc)?, first.1)?;
-    let two = put(alloc, &one, second.0.share(alloc)?, second.1, &mut steps)?;
-    let left = del(alloc, &two, &first.0, &mut steps)?;
-    let val = get(alloc, &left, &second.0, &mut steps)?;
-    let fold = match left.aug() {
-        Some(fold) => Some(fold.share(alloc)?),
-        None => None,
-    };
-    let tree = left.share(alloc)?;
-    Ok(Left { tree, fold, val })
+    left_in::<A, L, S, C>(alloc, first, second, &mut steps)
 }
 
 fn left_of_two<A: Augment, L: Leaf<A::Key, A::Val>, S: BlockSize>(

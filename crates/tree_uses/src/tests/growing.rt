@@ -55,6 +55,20 @@ fn without_front<S: BlockSize, C: Ledger>(
 }
 
 /// The sizes of a map of 1000 keys, of its later half, and of none of it.
+fn sizes_in<S: BlockSize, C: Ledger>(
+    alloc: Global,
+    steps: &mut Steps<C>,
+) -> Result<(u64, u64, u64), NoMemory>
+    requires block_size { IsBlockSize S.SIZE }
+{
+    let tree: Sums<S> = rising(alloc, 1001, steps)?;
+    let all = tree.size();
+    let later = without_front(alloc, tree, 501, steps)?;
+    let half = later.size();
+    let none = without_front(alloc, later, 1001, steps)?;
+    Ok((all, half, none.size()))
+}
+
 fn sizes_counted<S: BlockSize, C: Ledger>(
     alloc: Global,
     blank: Blank,
@@ -65,12 +79,7 @@ fn sizes_counted<S: BlockSize, C: Ledger>(
     requires some { 0 < blank.parts }
 {
     let mut steps = Steps::<C>::start(blank);
-    let tree: Sums<S> = rising(alloc, 1001, &mut steps)?;
-    let all = tree.size();
-    let later = without_front(alloc, tree, 501, &mut steps)?;
-    let half = later.size();
-    let none = without_front(alloc, later, 1001, &mut steps)?;
-    Ok((all, half, none.size()))
+    sizes_in::<S, C>(alloc, &mut steps)
 }
 
 fn sizes<S: BlockSize>(alloc: Global) -> Result<(u64, u64, u64), NoMemory>
@@ -141,6 +150,17 @@ fn falling_heights<S: BlockSize, C: Ledger>(
 
 type Heights = Vec<Option<u32>>;
 
+fn heights_in<S: BlockSize, C: Ledger>(
+    alloc: Global,
+    steps: &mut Steps<C>,
+) -> Result<(Heights, Heights), NoMemory>
+    requires block_size { IsBlockSize S.SIZE }
+{
+    let (tree, up) = rising_heights::<S, C>(alloc, steps)?;
+    let down = falling_heights(alloc, tree, steps)?;
+    Ok((up, down))
+}
+
 fn heights_counted<S: BlockSize, C: Ledger>(
     alloc: Global,
     blank: Blank,
@@ -151,9 +171,7 @@ fn heights_counted<S: BlockSize, C: Ledger>(
     requires some { 0 < blank.parts }
 {
     let mut steps = Steps::<C>::start(blank);
-    let (tree, up) = rising_heights::<S, C>(alloc, &mut steps)?;
-    let down = falling_heights(alloc, tree, &mut steps)?;
-    Ok((up, down))
+    heights_in::<S, C>(alloc, &mut steps)
 }
 
 fn heights<S: BlockSize>(alloc: Global) -> Result<(Heights, Heights), NoMemory>

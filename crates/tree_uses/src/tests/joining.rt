@@ -51,6 +51,18 @@ fn joined_around<S: BlockSize, C: Ledger>(
 }
 
 /// The outlines around the second key and around the last but one, of the map of the keys from 1 to 100002.
+fn around_in<S: BlockSize, C: Ledger>(
+    alloc: Global,
+    steps: &mut Steps<C>,
+) -> Result<[Joins; 2], NoMemory>
+    requires block_size { IsBlockSize S.SIZE }
+{
+    let tree: Sums<S> = rising(alloc, 100003, steps)?;
+    let low = joined_around(alloc, &tree, 2, steps)?;
+    let high = joined_around(alloc, &tree, 100001, steps)?;
+    Ok([low, high])
+}
+
 fn around_counted<S: BlockSize, C: Ledger>(
     alloc: Global,
     blank: Blank,
@@ -61,10 +73,7 @@ fn around_counted<S: BlockSize, C: Ledger>(
     requires some { 0 < blank.parts }
 {
     let mut steps = Steps::<C>::start(blank);
-    let tree: Sums<S> = rising(alloc, 100003, &mut steps)?;
-    let low = joined_around(alloc, &tree, 2, &mut steps)?;
-    let high = joined_around(alloc, &tree, 100001, &mut steps)?;
-    Ok([low, high])
+    around_in::<S, C>(alloc, &mut steps)
 }
 
 fn around<S: BlockSize>(alloc: Global) -> Result<[Joins; 2], NoMemory>

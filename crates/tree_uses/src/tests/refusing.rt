@@ -87,6 +87,27 @@ struct Refusals {
     is_unchanged: bool,
 }
 
+fn refused_in<S: BlockSize, C: Ledger>(
+    alloc: Global,
+    steps: &mut Steps<C>,
+) -> Result<Refusals, NoMemory>
+    requires block_size { IsBlockSize S.SIZE }
+{
+    let probe = Probe::start(alloc)?;
+    let tree: Watched<S> = rising_watched(alloc, &probe, 10, steps)?;
+    let before = numbers(alloc, &tree)?;
+    let points = refused_points(alloc, &probe, &tree, steps)?;
+    let joins = refused_joins(alloc, &probe, &tree, steps)?;
+    let wholes = refused_wholes(alloc, &probe, &tree, steps)?;
+    let after = numbers(alloc, &tree)?;
+    Ok(Refusals {
+        points,
+        joins,
+        wholes,
+        is_unchanged: after == before,
+    })
+}
+
 fn refused_counted<S: BlockSize, C: Ledger>(
     alloc: Global,
     blank: Blank,
@@ -97,19 +118,7 @@ fn refused_counted<S: BlockSize, C: Ledger>(
     requires some { 0 < blank.parts }
 {
     let mut steps = Steps::<C>::start(blank);
-    let probe = Probe::start(alloc)?;
-    let tree: Watched<S> = rising_watched(alloc, &probe, 10, &mut steps)?;
-    let before = numbers(alloc, &tree)?;
-    let points = refused_points(alloc, &probe, &tree, &mut steps)?;
-    let joins = refused_joins(alloc, &probe, &tree, &mut steps)?;
-    let wholes = refused_wholes(alloc, &probe, &tree, &mut steps)?;
-    let after = numbers(alloc, &tree)?;
-    Ok(Refusals {
-        points,
-        joins,
-        wholes,
-        is_unchanged: after == before,
-    })
+    refused_in::<S, C>(alloc, &mut steps)
 }
 
 fn refused<S: BlockSize>(alloc: Global) -> Result<Refusals, NoMemory>
@@ -185,6 +194,20 @@ impl Augment for CheckedSum {
 type Checked<S> = TreeOver<CheckedSum, PlainLeaf<u64, u64>, S>;
 
 /// Whether a map of nine keys refuses a value that is too large for its sum, and its fold and size after.
+fn overfull_in<S: BlockSize, C: Ledger>(
+    alloc: Global,
+    steps: &mut Steps<C>,
+) -> Result<(bool, Option<u64>, u64), NoMemory>
+    requires block_size { IsBlockSize S.SIZE }
+{
+    let mut tree: Checked<S> = TreeOver::empty();
+    for key in 1..10 {
+        tree = put(alloc, &tree, key, key, steps)?;
+    }
+    let refused = put(alloc, &tree, 10, u64::MAX, steps).is_err();
+    Ok((refused, tree.aug().copied(), tree.size()))
+}
+
 fn overfull_counted<S: BlockSize, C: Ledger>(
     alloc: Global,
     blank: Blank,
@@ -195,12 +218,7 @@ fn overfull_counted<S: BlockSize, C: Ledger>(
     requires some { 0 < blank.parts }
 {
     let mut steps = Steps::<C>::start(blank);
-    let mut tree: Checked<S> = TreeOver::empty();
-    for key in 1..10 {
-        tree = put(alloc, &tree, key, key, &mut steps)?;
-    }
-    let refused = put(alloc, &tree, 10, u64::MAX, &mut steps).is_err();
-    Ok((refused, tree.aug().copied(), tree.size()))
+    overfull_in::<S, C>(alloc, &mut steps)
 }
 
 fn overfull<S: BlockSize>(alloc: Global) -> Result<(bool, Option<u64>, u64), NoMemory>

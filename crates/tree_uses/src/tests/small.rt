@@ -24,6 +24,23 @@ struct Pieces {
     whole: Entries,
 }
 
+fn parted_in<S: BlockSize, C: Ledger>(
+    alloc: Global,
+    steps: &mut Steps<C>,
+) -> Result<Pieces, NoMemory>
+    requires block_size { IsBlockSize S.SIZE }
+{
+    let tree: Sums<S> = rising(alloc, 4, steps)?;
+    let parts = split(alloc, &tree, &2, steps)?;
+    let whole = join(alloc, &parts.below, 2, 2, &parts.above, steps)?;
+    Ok(Pieces {
+        below: listed(alloc, &parts.below)?,
+        found: parts.found,
+        above: listed(alloc, &parts.above)?,
+        whole: listed(alloc, &whole)?,
+    })
+}
+
 fn parted_counted<S: BlockSize, C: Ledger>(alloc: Global, blank: Blank) -> Result<Pieces, NoMemory>
     requires block_size { IsBlockSize S.SIZE }
     requires name { blank.name ≡ C.name }
@@ -31,15 +48,7 @@ fn parted_counted<S: BlockSize, C: Ledger>(alloc: Global, blank: Blank) -> Resul
     requires some { 0 < blank.parts }
 {
     let mut steps = Steps::<C>::start(blank);
-    let tree: Sums<S> = rising(alloc, 4, &mut steps)?;
-    let parts = split(alloc, &tree, &2, &mut steps)?;
-    let whole = join(alloc, &parts.below, 2, 2, &parts.above, &mut steps)?;
-    Ok(Pieces {
-        below: listed(alloc, &parts.below)?,
-        found: parts.found,
-        above: listed(alloc, &parts.above)?,
-        whole: listed(alloc, &whole)?,
-    })
+    parted_in::<S, C>(alloc, &mut steps)
 }
 
 fn parted<S: BlockSize>(alloc: Global) -> Result<Pieces, NoMemory>
@@ -115,6 +124,23 @@ fn map_of<S: BlockSize, C: Ledger>(
 }
 
 /// The union of two maps of entries, made anew from its entries.
+fn united_in<S: BlockSize, C: Ledger>(
+    alloc: Global,
+    first: &[(u64, u64)],
+    second: &[(u64, u64)],
+    steps: &mut Steps<C>,
+) -> Result<Entries, NoMemory>
+    requires block_size { IsBlockSize S.SIZE }
+{
+    let a: Sums<S> = map_of(alloc, first, steps)?;
+    let b: Sums<S> = map_of(alloc, second, steps)?;
+    let both = merge(alloc, &a, &b, &SatSum)?;
+    let _size = both.size();
+    let entries = listed(alloc, &both)?;
+    let again: Sums<S> = TreeOver::from_increasing(alloc, &entries, steps)?;
+    listed(alloc, &again)
+}
+
 fn united_counted<S: BlockSize, C: Ledger>(
     alloc: Global,
     first: &[(u64, u64)],
@@ -127,13 +153,7 @@ fn united_counted<S: BlockSize, C: Ledger>(
     requires some { 0 < blank.parts }
 {
     let mut steps = Steps::<C>::start(blank);
-    let a: Sums<S> = map_of(alloc, first, &mut steps)?;
-    let b: Sums<S> = map_of(alloc, second, &mut steps)?;
-    let both = merge(alloc, &a, &b, &SatSum)?;
-    let _size = both.size();
-    let entries = listed(alloc, &both)?;
-    let again: Sums<S> = TreeOver::from_increasing(alloc, &entries, &mut steps)?;
-    listed(alloc, &again)
+    united_in::<S, C>(alloc, first, second, &mut steps)
 }
 
 fn united<S: BlockSize>(

@@ -78,6 +78,18 @@ fn watched_lookups<S: BlockSize, C: Ledger>(
     Ok(lookups)
 }
 
+fn lookups_in<S: BlockSize, C: Ledger>(
+    alloc: Global,
+    steps: &mut Steps<C>,
+) -> Result<(Lookups, u32), NoMemory>
+    requires block_size { IsBlockSize S.SIZE }
+{
+    let probe = Probe::start(alloc)?;
+    let tree: Watched<S> = rising_watched(alloc, &probe, 100001, steps)?;
+    let lookups = watched_lookups(alloc, &probe, &tree, 100002, steps)?;
+    Ok((lookups, tree.height()))
+}
+
 fn lookups_counted<S: BlockSize, C: Ledger>(
     alloc: Global,
     blank: Blank,
@@ -88,10 +100,7 @@ fn lookups_counted<S: BlockSize, C: Ledger>(
     requires some { 0 < blank.parts }
 {
     let mut steps = Steps::<C>::start(blank);
-    let probe = Probe::start(alloc)?;
-    let tree: Watched<S> = rising_watched(alloc, &probe, 100001, &mut steps)?;
-    let lookups = watched_lookups(alloc, &probe, &tree, 100002, &mut steps)?;
-    Ok((lookups, tree.height()))
+    lookups_in::<S, C>(alloc, &mut steps)
 }
 
 /// Whether the look-ups in a map of 100000 entries found those and took no more comparisons than they may, which are the

@@ -1,8 +1,0 @@
-use Rattle.std.proofs.Common.{refl}
-use Rattle.tree_uses.proofs.tests.joining.around_counted.Goals as goal
-
-pub same-steps : goal.same-steps
-same-steps g c = refl
-
-pub same-steps-2 : goal.same-steps-2
-same-steps-2 g c = refl
