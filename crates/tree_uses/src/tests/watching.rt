@@ -63,7 +63,7 @@ fn looked_up<S: BlockSize, C: Ledger>(
     })
 }
 
-/// The look-ups of the numbers below a number, and the map's height.
+/// The look-ups of the numbers below a number.
 fn watched_lookups<S: BlockSize, C: Ledger>(
     alloc: Global,
     probe: &Arc<Probe>,
@@ -78,6 +78,7 @@ fn watched_lookups<S: BlockSize, C: Ledger>(
     Ok(lookups)
 }
 
+/// The look-ups in a map of 100000 entries, and its height.
 fn lookups_in<S: BlockSize, C: Ledger>(
     alloc: Global,
     steps: &mut Steps<C>,
