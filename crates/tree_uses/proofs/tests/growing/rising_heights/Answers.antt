@@ -1,5 +1,8 @@
-use Rattle.std.proofs.Common.{refl}
+use Rattle.std.proofs.Common.{refl, arith}
 use Rattle.tree_uses.proofs.tests.growing.rising_heights.Goals as goal
+
+pub overflow_add-key : goal.overflow_add-key
+overflow_add-key g c = omega (arith, c.loop-key-test.true)
 
 pub same-tree : goal.same-tree
 same-tree g c = refl
