@@ -1,0 +1,18 @@
+//! Maps and their cursors cross threads.
+use crate::cursor::CursorOver;
+use crate::map::MapOver;
+use aug_monoid::{Leaf, SyncAugment};
+use std::marker::{Send, Sync};
+use tree_base::BlockSize;
+
+fn crosses<T: Send + Sync>(_value: &T) {}
+
+/// A map and its cursors are sent to and shared among threads.
+pub fn map_crosses<
+    A: SyncAugment,
+    L: Leaf<A::Key, A::Val> + Send + Sync,
+    S: BlockSize + Send + Sync,
+>(map: &MapOver<A, L, S>, cursor: &CursorOver<'_, A, L, S>) {
+    crosses(map);
+    crosses(cursor);
+}

@@ -1,0 +1,171 @@
+//! Cursors over maps.
+ghost use Rattle.std.specs.Prelude.{◌≡◌, ◌+◌, ◌<◌, ◌≤◌, List, ◌∷◌, ◌++◌, Some, length, drop, slice_get, IfOk, IsOk};
+ghost use Rattle.std.specs.Iterator.{item_count};
+ghost use Rattle.aug_map.specs.Shares.{YieldsShares, Takes};
+ghost use Rattle.aug_map.specs.Places.{IsPlace};
+
+use crate::map::MapOver;
+use crate::seat::{Seat, find_seat};
+use aug_monoid::{Augment, Key, Leaf, NoMemory, Share, Walk};
+use std::alloc::Global;
+use std::marker::Model;
+use tree_base::{BlockSize, TreeOver, Width};
+
+/// A place in a leaf.
+#[derive(Drop)]
+pub(crate) struct Place<'a, L> {
+    leaf: &'a L,
+    at: u64,
+    walk: Walk,
+}
+
+/// The entries of a map in the order of their keys.
+pub type Cursor<'a, A, L, const B: usize> = CursorOver<'a, A, L, Width<B>>;
+
+/// The entries of a map in the order of their keys, which contracts see as the list of those that are left.
+#[derive(Drop)]
+pub struct CursorOver<'a, A: Augment, L: Leaf<A::Key, A::Val>, S: BlockSize> {
+    alloc: Global,
+    tree: &'a TreeOver<A, L, S>,
+    at: u64,
+    place: Option<Place<'a, L>>,
+}
+
+impl<'a, A: Augment, L: Leaf<A::Key, A::Val>, S: BlockSize> Model for CursorOver<'a, A, L, S> {
+    ghost use Rattle.std.specs.Prelude.{List, ◌≤◌, length, drop};
+
+    ghost Value = { List (A.Key × A.Val) };
+
+    ghost use Rattle.aug_map.specs.Places.{IsPlace};
+
+    ghost view = { λ c. drop c.at c.tree.now.entries };
+
+    ghost invariant = { λ c. (c.at ≤ length c.tree.now.entries) × IsPlace L.entries L.fits_walk (drop c.at c.tree.now.entries) c.place };
+}
+
+impl<A: Augment, L: Leaf<A::Key, A::Val>, S: BlockSize> MapOver<A, L, S> {
+    /// Goes over the entries in the order of their keys: one item an entry, a share of it or a refusal of that share. It keeps the
+    /// allocator for the shares, and takes no memory itself.
+    pub fn cursor(&self, alloc: Global) -> CursorOver<'_, A, L, S>
+        ensures { result ≡ self.now.entries }
+    {
+        CursorOver {
+            alloc,
+            tree: &self.tree,
+            at: 0,
+            place: None,
+        }
+    }
+}
+
+/// An entry, and the place behind it.
+#[derive(Drop)]
+pub(crate) struct Taken<'a, K, V, L> {
+    entry: Result<(K, V), NoMemory>,
+    place: Option<Place<'a, L>>,
+}
+
+fn share_entry<K: Share, V: Share>(alloc: Global, key: &K, val: &V) -> Result<(K, V), NoMemory>
+    ensures value { IfOk result (λ entry. entry ≡ (key.now, val.now)) }
+    ensures succeeds { K.never_refuses → V.never_refuses → IsOk result }
+{
+    let key = key.share(alloc)?;
+    let val = val.share(alloc)?;
+    Ok((key, val))
+}
+
+// The entry at a place of a leaf, by the walk where that is there, else by its number.
+fn read_entry<K: Key, V: Share, L: Leaf<K, V>>(
+    alloc: Global,
+    leaf: &L,
+    at: u64,
+    walk: &mut Walk,
+) -> Result<(K, V), NoMemory>
+    requires within { at < length (L.entries leaf.now) }
+    requires fits { L.fits_walk leaf.now walk.old }
+    ensures entry { IfOk result (λ entry. slice_get (L.entries leaf.now) at ≡ Some entry) }
+    ensures succeeds { K.never_refuses → V.never_refuses → IsOk result }
+    ensures fits { L.fits_walk leaf.now walk.new }
+{
+    if walk.index == at {
+        match leaf.walk_next(alloc, walk)? {
+            Some(entry) => Ok(entry),
+            None => unreachable!(),
+        }
+    } else {
+        match leaf.get_at(alloc, at)? {
+            Some(entry) => Ok(entry),
+            None => unreachable!(),
+        }
+    }
+}
+
+// The entry at a place of a leaf, and the place behind it.
+fn take_inside<'a, K: Key, V: Share, L: Leaf<K, V>>(
+    alloc: Global,
+    leaf: &'a L,
+    at: u64,
+    mut walk: Walk,
+) -> Taken<'a, K, V, L>
+    requires within { at < length (L.entries leaf.now) }
+    requires fits { L.fits_walk leaf.now walk }
+    ensures entry { Takes (L.entries leaf.now) at result.entry }
+    ensures succeeds { K.never_refuses → V.never_refuses → IsOk result.entry }
+    ensures place { (rest : List (K × V)) → IsPlace L.entries L.fits_walk (drop (at + 1) (L.entries leaf.now) ++ rest) result.place }
+{
+    let entry = read_entry(alloc, leaf, at, &mut walk);
+    let _number = leaf.len();
+    Taken {
+        entry,
+        place: Some(Place {
+            leaf,
+            at: at + 1,
+            walk,
+        }),
+    }
+}
+
+// The entry behind the first `at` entries of a tree, and the place behind it.
+fn take_next<'a, A: Augment, L: Leaf<A::Key, A::Val>, S: BlockSize>(
+    alloc: Global,
+    tree: &'a TreeOver<A, L, S>,
+    at: u64,
+    place: Option<Place<'a, L>>,
+) -> Taken<'a, A::Key, A::Val, L>
+    requires within { at < length tree.now.entries }
+    requires place { IsPlace L.entries L.fits_walk (drop at tree.now.entries) place }
+    ensures entry { Takes tree.now.entries at result.entry }
+    ensures succeeds { A.Key.never_refuses → A.Val.never_refuses → IsOk result.entry }
+    ensures place { IsPlace L.entries L.fits_walk (drop (at + 1) tree.now.entries) result.place }
+{
+    if let Some(place) = place {
+        if place.at < place.leaf.len() {
+            return take_inside(alloc, place.leaf, place.at, place.walk);
+        }
+    }
+    match find_seat(tree, at) {
+        Seat::Entry { key, val } => Taken {
+            entry: share_entry(alloc, key, val),
+            place: None,
+        },
+        Seat::Inside { leaf, at } => take_inside(alloc, leaf, at, leaf.walk()),
+    }
+}
+
+impl<'a, A: Augment, L: Leaf<A::Key, A::Val>, S: BlockSize> Iterator for CursorOver<'a, A, L, S> {
+    type Item = Result<(A::Key, A::Val), NoMemory>;
+
+    ghost next_gives = { YieldsShares (A.Key.never_refuses × A.Val.never_refuses) (λ c. c) };
+
+    ghost remaining = { item_count (λ c. c) };
+
+    fn next(&mut self) -> Option<Result<(A::Key, A::Val), NoMemory>> {
+        if self.at >= self.tree.size() {
+            return None;
+        }
+        let Taken { entry, place } = take_next(self.alloc, self.tree, self.at, self.place.take());
+        self.at += 1;
+        self.place = place;
+        Some(entry)
+    }
+}

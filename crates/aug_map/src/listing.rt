@@ -1,0 +1,18 @@
+//! The list of a map's entries.
+ghost use Rattle.std.specs.Prelude.{◌≡◌, IfOk};
+
+use crate::map::MapOver;
+use aug_monoid::{Augment, Leaf, NoMemory};
+use std::alloc::Global;
+use tree_base::BlockSize;
+
+impl<A: Augment, L: Leaf<A::Key, A::Val>, S: BlockSize> MapOver<A, L, S> {
+    /// The entries in the order of their keys, in time linear in their number.
+    pub fn to_vec(&self, alloc: Global) -> Result<Vec<(A::Key, A::Val)>, NoMemory>
+        ensures { IfOk result (λ list. list.items ≡ self.now.entries) }
+    {
+        let mut list = Vec::new(alloc);
+        self.tree.push_entries(alloc, &mut list)?;
+        Ok(list)
+    }
+}

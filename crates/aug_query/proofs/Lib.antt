@@ -1,0 +1,4 @@
+pub mod Blocks
+pub mod Nodes
+pub mod Ranges
+pub mod Walks

@@ -1,0 +1,30 @@
+use Rattle.std.proofs.Common.{◌≡◌, sym, ap, ◌∙◌}
+use Rattle.std.specs.declared.cmp.Ordering.TheVariants.{Less}
+use Rattle.map_model.proofs.Keys.{AllKeys-filter, around}
+use Rattle.aug_query.proofs.Walks.{filter_sides}
+use Rattle.aug_query.proofs.filter.+filter_part.Goals as goal
+
+pub returns-then-fails_whole : goal.returns-then-fails_whole
+returns-then-fails_whole g t c = ap (λ x. x.entries) c.empty.ensures ∙ sym (c.fails_whole.ensures c.if-fails_whole.true)
+
+pub filter_node-requires-clause-below : goal.filter_node-requires-clause-below
+filter_node-requires-clause-below g t c =
+    let cmp = g.A.Key.Ord.cmp in
+    let p = λ (e : g.row.A-Key.Denot × g.row.A-Val.Denot). g.T.AugTest.admits c.args.test.now (g.A.Augment.base_of e.0 e.1) in
+    let left = c.in-Node.left.now.entries in
+    let sides = around cmp left c.in-Node.key.now c.in-Node.val.now c.in-Node.right.now.entries c.in-Node.ensures.top.increasing in
+    rw c.in_ok-front-in-Node.ensures (AllKeys-filter (λ k. cmp k c.in-Node.key.now ≡ Less) p left sides.lower)
+
+pub filter_node-requires-clause-above : goal.filter_node-requires-clause-above
+filter_node-requires-clause-above g t c =
+    let cmp = g.A.Key.Ord.cmp in
+    let p = λ (e : g.row.A-Key.Denot × g.row.A-Val.Denot). g.T.AugTest.admits c.args.test.now (g.A.Augment.base_of e.0 e.1) in
+    let right = c.in-Node.right.now.entries in
+    let sides = around cmp c.in-Node.left.now.entries c.in-Node.key.now c.in-Node.val.now right c.in-Node.ensures.top.increasing in
+    rw c.in_ok-back-in-Node.ensures (AllKeys-filter (λ k. cmp c.in-Node.key.now k ≡ Less) p right sides.upper)
+
+pub filter_node-requires-clause-whole : goal.filter_node-requires-clause-whole
+filter_node-requires-clause-whole g t c =
+    let p = λ (e : g.row.A-Key.Denot × g.row.A-Val.Denot). g.T.AugTest.admits c.args.test.now (g.A.Augment.base_of e.0 e.1) in
+    let e : g.row.A-Key.Denot × g.row.A-Val.Denot = (c.in-Node.key.now, c.in-Node.val.now) in
+    rw (c.in_ok-front-in-Node.ensures, c.in_ok-back-in-Node.ensures) (filter_sides p c.args.part.tree.now.entries c.in-Node.left.now.entries e c.in-Node.right.now.entries c.in-Node.ensures.top.entries_are)

@@ -1,0 +1,63 @@
+use Rattle.std.proofs.Common.{◌≡◌, ◌∷◌, ◌++◌, sym, ap, ◌∙◌, arith}
+use Rattle.std.proofs.lemmas.Result.{IfOk-weaker}
+use Rattle.std.specs.declared.cmp.Ordering.TheVariants.{Less}
+use Rattle.map_model.proofs.Keys.{IsIncreasing-filter, AllKeys-filter, around}
+use Rattle.map_model.proofs.Lengths.{length-filter_le}
+use Rattle.aug_query.specs.Within.{in_range, within}
+use Rattle.aug_query.proofs.Ranges.{within-whole, within-before, within-after, within-inside}
+use Rattle.aug_query.proofs.parts.+keep_span.Goals as goal
+
+pub returns-then-is_all : goal.returns-then-is_all
+returns-then-is_all g t c =
+    let whole = within-whole g.A.Key.Ord.cmp c.args.span.range c.args.span.tree.now.entries (sym c.is_all.ensures ∙ c.if-is_all.true) in
+    IfOk-weaker c.share.result _ _ (λ x h. ap (λ y. y.entries) h ∙ sym whole) c.share.ensures.value
+
+pub returns-then-ends_before : goal.returns-then-ends_before
+returns-then-ends_before g t c =
+    let node = c.in-Node.ensures.top in
+    let part = ap (within g.A.Key.Ord.cmp c.args.span.range) node.entries_are ∙ within-before g.met.A.Key.Ord.total c.args.span.range c.in-Node.left.now.entries c.in-Node.key.now c.in-Node.val.now c.in-Node.right.now.entries node.increasing (sym c.ends_before.ensures.value ∙ c.if-ends_before.true) in
+    IfOk-weaker c.keep_span.result _ _ (λ x h. h ∙ sym part) c.keep_span.ensures
+
+pub returns-then-begins_after : goal.returns-then-begins_after
+returns-then-begins_after g t c =
+    let node = c.in-Node.ensures.top in
+    let part = ap (within g.A.Key.Ord.cmp c.args.span.range) node.entries_are ∙ within-after g.met.A.Key.Ord.total c.args.span.range c.in-Node.left.now.entries c.in-Node.key.now c.in-Node.val.now c.in-Node.right.now.entries node.increasing (sym c.begins_after.ensures.value ∙ c.if-begins_after.true) in
+    IfOk-weaker c.keep_span-then-begins_after.result _ _ (λ x h. h ∙ sym part) c.keep_span-then-begins_after.ensures
+
+pub from_increasing-requires-clause-increasing : goal.from_increasing-requires-clause-increasing
+from_increasing-requires-clause-increasing g t c =
+    let cmp = g.A.Key.Ord.cmp in
+    let range = c.args.span.range in
+    rw (c.deref.ensures.value, c.in_ok-kept-in-Block.ensures) (IsIncreasing-filter cmp (λ e. in_range cmp range e.0) (g.L.Leaf.entries c.in-Block.leaf.now) c.in-Block.ensures.top.increasing)
+
+pub from_increasing-requires-clause-fits : goal.from_increasing-requires-clause-fits
+from_increasing-requires-clause-fits g t c =
+    let cmp = g.A.Key.Ord.cmp in
+    let range = c.args.span.range in
+    let few = length-filter_le (λ e. in_range cmp range e.0) (g.L.Leaf.entries c.in-Block.leaf.now) in
+    rw (c.deref.ensures.value, c.in_ok-kept-in-Block.ensures) (omega (arith, few, c.in-Block.ensures.top.short, c.in-Block.ensures.lawful))
+
+pub join-requires-clause-below : goal.join-requires-clause-below
+join-requires-clause-below g t c =
+    let cmp = g.A.Key.Ord.cmp in
+    let sides = around cmp c.in-Node.left.now.entries c.in-Node.key.now c.in-Node.val.now c.in-Node.right.now.entries c.in-Node.ensures.top.increasing in
+    rw (c.in_ok-front-in-Node.ensures, c.in_ok-key-in-Node.ensures.value) (AllKeys-filter (λ k. cmp k c.in-Node.key.now ≡ Less) (λ e. in_range cmp c.left_part.result e.0) c.in-Node.left.now.entries sides.lower)
+
+pub join-requires-clause-above : goal.join-requires-clause-above
+join-requires-clause-above g t c =
+    let cmp = g.A.Key.Ord.cmp in
+    let sides = around cmp c.in-Node.left.now.entries c.in-Node.key.now c.in-Node.val.now c.in-Node.right.now.entries c.in-Node.ensures.top.increasing in
+    rw (c.in_ok-back-in-Node.ensures, c.in_ok-key-in-Node.ensures.value) (AllKeys-filter (λ k. cmp c.in-Node.key.now k ≡ Less) (λ e. in_range cmp c.right_part.result e.0) c.in-Node.right.now.entries sides.upper)
+
+pub returns-in_ok-val-in-Node : goal.returns-in_ok-val-in-Node
+returns-in_ok-val-in-Node g t c =
+    let cmp = g.A.Key.Ord.cmp in
+    let range = c.args.span.range in
+    let node = c.in-Node.ensures.top in
+    let left = c.in-Node.left.now.entries in
+    let right = c.in-Node.right.now.entries in
+    let front = c.in_ok-front-in-Node.ensures ∙ ap (λ r. within cmp r left) c.left_part.ensures in
+    let back = c.in_ok-back-in-Node.ensures ∙ ap (λ r. within cmp r right) c.right_part.ensures in
+    let cut = ap (within cmp range) node.entries_are ∙ within-inside g.met.A.Key.Ord.total range left c.in-Node.key.now c.in-Node.val.now right node.increasing (sym c.ends_before.ensures.value ∙ c.if-ends_before.false) (sym c.begins_after.ensures.value ∙ c.if-begins_after.false) in
+    let joined : c.in_ok-front-in-Node.front.entries ++ (c.in_ok-key-in-Node.key, c.in_ok-val-in-Node.val) ∷ c.in_ok-back-in-Node.back.entries ≡ within cmp range c.args.span.tree.now.entries = rw (front, back, c.in_ok-key-in-Node.ensures.value, c.in_ok-val-in-Node.ensures.value) (sym cut) in
+    IfOk-weaker c.join.result _ _ (λ x h. h ∙ joined) c.join.ensures.entries

@@ -1,0 +1,155 @@
+//! Filters by the augmented values.
+ghost use Rattle.std.specs.Prelude.{◌≡◌, ◌+◌, ◌*◌, ◌<◌, ◌≤◌, [], ◌∷◌, ◌++◌, length, true, if◌then◌else◌, IfOk};
+ghost use Rattle.map_model.specs.Balance.{IsBlockSize};
+ghost use Rattle.map_model.specs.Entries.{AllAbove, AllBelow, IsIncreasing};
+ghost use Rattle.map_model.specs.Fold.{aug_filter};
+
+use aug_monoid::{AugTest, Augment, Leaf, NoMemory, Share, Steps};
+use join_core::{Part, join, join2};
+use std::alloc::Global;
+use std::marker::Brand;
+use std::sync::ledger::{Blank, Ledger};
+use tree_base::{BlockSize, LookOver, TreeOver};
+
+/// The map of the entries whose augmented values pass. It passes over each tree whose stored fold fails the test, and shares
+/// each tree that it keeps whole, so its time goes with the number of entries that pass.
+pub fn aug_filter<A: Augment, L: Leaf<A::Key, A::Val>, S: BlockSize, T: AugTest<A>>(
+    alloc: Global,
+    tree: &TreeOver<A, L, S>,
+    test: &T,
+) -> Result<TreeOver<A, L, S>, NoMemory>
+    ensures { IfOk result (λ kept. kept.entries ≡ aug_filter A.base_of (T.admits test.now) tree.now.entries) }
+{
+    filter_counted::<A, L, S, T, Brand>(alloc, tree, test, Blank::new(1))
+}
+
+/// The same, with a counter of its own.
+fn filter_counted<A: Augment, L: Leaf<A::Key, A::Val>, S: BlockSize, T: AugTest<A>, C: Ledger>(
+    alloc: Global,
+    tree: &TreeOver<A, L, S>,
+    test: &T,
+    blank: Blank,
+) -> Result<TreeOver<A, L, S>, NoMemory>
+    requires name { blank.name ≡ C.name }
+    requires parts { blank.parts ≡ C.parts }
+    requires some { 0 < blank.parts }
+    ensures { IfOk result (λ kept. kept.entries ≡ aug_filter A.base_of (T.admits test.now) tree.now.entries) }
+{
+    let mut steps = Steps::<C>::start(blank);
+    filter_part(alloc, Part { tree }, test, &mut steps)
+}
+
+/// The entries of a leaf whose augmented values pass, in one walk.
+fn filter_block<A: Augment, L: Leaf<A::Key, A::Val>, T: AugTest<A>>(
+    alloc: Global,
+    leaf: &L,
+    test: &T,
+) -> Result<Vec<(A::Key, A::Val)>, NoMemory>
+    ensures { IfOk result (λ kept. kept.items ≡ aug_filter A.base_of (T.admits test.now) (L.entries leaf.now)) }
+{
+    let mut kept = Vec::new(alloc);
+    let mut walk = leaf.walk();
+    for _at in 0..leaf.len() {
+        let Some((key, val)) = leaf.walk_next(alloc, &mut walk)? else {
+            unreachable!()
+        };
+        let base = A::base(&key, &val, alloc)?;
+        if !test.passes(&base) {
+            continue;
+        }
+        kept.push((key, val))?;
+    }
+    Ok(kept)
+}
+
+/// Whether no entry of a tree passes, as its stored fold shows.
+fn fails_whole<A: Augment, L: Leaf<A::Key, A::Val>, S: BlockSize, T: AugTest<A>>(
+    tree: &TreeOver<A, L, S>,
+    test: &T,
+) -> bool
+    ensures { result ≡ true → aug_filter A.base_of (T.admits test.now) tree.now.entries ≡ [] }
+{
+    match tree.aug() {
+        Some(fold) => !test.passes(fold),
+        None => true,
+    }
+}
+
+/// The map of the entries of a tree of one block that pass: the tree itself where all do.
+fn filter_leaf<A: Augment, L: Leaf<A::Key, A::Val>, S: BlockSize, T: AugTest<A>, C: Ledger>(
+    alloc: Global,
+    tree: &TreeOver<A, L, S>,
+    leaf: &L,
+    test: &T,
+    steps: &mut Steps<C>,
+) -> Result<TreeOver<A, L, S>, NoMemory>
+    requires block_size { IsBlockSize S.SIZE }
+    requires increasing { IsIncreasing A.Key.cmp (L.entries leaf.now) }
+    requires short { length (L.entries leaf.now) ≤ 2 * S.SIZE }
+    requires same { tree.now.entries ≡ L.entries leaf.now }
+    ensures { IfOk result (λ kept. kept.entries ≡ aug_filter A.base_of (T.admits test.now) (L.entries leaf.now)) }
+{
+    let kept = filter_block::<A, L, T>(alloc, leaf, test)?;
+    if kept.len() as u64 == leaf.len() {
+        return tree.share(alloc);
+    }
+    TreeOver::from_increasing(alloc, &kept, steps)
+}
+
+/// What passed of a tree's two sides, with its entry between them where it passes: the tree itself where nothing is left out.
+fn filter_node<A: Augment, L: Leaf<A::Key, A::Val>, S: BlockSize, T: AugTest<A>, C: Ledger>(
+    alloc: Global,
+    tree: &TreeOver<A, L, S>,
+    front: &TreeOver<A, L, S>,
+    key: &A::Key,
+    val: &A::Val,
+    back: &TreeOver<A, L, S>,
+    test: &T,
+    steps: &mut Steps<C>,
+) -> Result<TreeOver<A, L, S>, NoMemory>
+    requires below { AllBelow A.Key.cmp front.now.entries key.now }
+    requires above { AllAbove A.Key.cmp back.now.entries key.now }
+    requires whole { length front.now.entries + length back.now.entries + 1 ≡ length tree.now.entries → tree.now.entries ≡ front.now.entries ++ (key.now, val.now) ∷ back.now.entries }
+    ensures { IfOk result (λ kept. kept.entries ≡ front.now.entries ++ (if T.admits test.now (A.base_of key.now val.now) then (key.now, val.now) ∷ back.now.entries else back.now.entries)) }
+{
+    let base = A::base(key, val, alloc)?;
+    if !test.passes(&base) {
+        return join2(alloc, front, back, steps);
+    }
+    if front.size() + back.size() + 1 == tree.size() {
+        return tree.share(alloc);
+    }
+    let key = key.share(alloc)?;
+    let val = val.share(alloc)?;
+    join(alloc, front, key, val, back, steps)
+}
+
+/// The map of the entries whose augmented values pass.
+fn filter_part<A: Augment, L: Leaf<A::Key, A::Val>, S: BlockSize, T: AugTest<A>, C: Ledger>(
+    alloc: Global,
+    part: Part<'_, A, L, S>,
+    test: &T,
+    steps: &mut Steps<C>,
+) -> Result<TreeOver<A, L, S>, NoMemory>
+    ensures { IfOk result (λ kept. kept.entries ≡ aug_filter A.base_of (T.admits test.now) part.entry.tree.now.entries) }
+{
+    let tree = part.tree;
+    let _block_size = tree.block_size();
+    if fails_whole(tree, test) {
+        return Ok(TreeOver::empty());
+    }
+    match tree.look() {
+        LookOver::Empty => tree.share(alloc),
+        LookOver::Block { leaf } => filter_leaf(alloc, tree, leaf, test, steps),
+        LookOver::Node {
+            left,
+            key,
+            val,
+            right,
+        } => {
+            let front = filter_part(alloc, Part { tree: left }, test, steps)?;
+            let back = filter_part(alloc, Part { tree: right }, test, steps)?;
+            filter_node(alloc, tree, &front, key, val, &back, test, steps)
+        }
+    }
+}

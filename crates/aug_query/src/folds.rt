@@ -1,0 +1,151 @@
+//! Folds of ranges of keys.
+ghost use Rattle.std.specs.Prelude.{◌≡◌, ◌+◌, ◌*◌, ◌≤◌, length, IfOk, IsOk};
+ghost use Rattle.map_model.specs.Entries.{IsIncreasing};
+ghost use Rattle.map_model.specs.Fold.{fold_of, range_fold};
+ghost use Rattle.map_model.specs.Parts.{left_of, right_of};
+ghost use Rattle.aug_query.specs.Within.{within, fold_cost};
+
+use crate::range::{KeyRange, Span};
+use aug_monoid::{Augment, Leaf, NoMemory, Share, Steps};
+use std::alloc::Global;
+use std::sync::ledger::Ledger;
+use tree_base::{BlockSize, LookOver, TreeOver};
+
+/// The fold of the entries with keys at most `key`, from the stored folds beside one path and at most one block. It takes no
+/// memory, and refuses nothing, where the `Augment` never refuses.
+pub fn aug_left<A: Augment, L: Leaf<A::Key, A::Val>, S: BlockSize, C: Ledger>(
+    alloc: Global,
+    tree: &TreeOver<A, L, S>,
+    key: &A::Key,
+    steps: &mut Steps<C>,
+) -> Result<A::Aug, NoMemory>
+    ensures value { IfOk result (λ aug. aug ≡ fold_of A.base_of A.unit_of A.combined (left_of A.Key.cmp tree.now.entries key.now)) }
+    ensures succeeds { A.never_refuses → IsOk result }
+    ensures cost { steps.new ≤ steps.old + (8 * tree.now.height + 16 * S.SIZE) }
+{
+    let range = KeyRange::AtMost { hi: key };
+    fold_span(alloc, Span { tree, range }, steps)
+}
+
+/// The fold of the entries with keys at least `key`, from the stored folds beside one path and at most one block. It takes no
+/// memory, and refuses nothing, where the `Augment` never refuses.
+pub fn aug_right<A: Augment, L: Leaf<A::Key, A::Val>, S: BlockSize, C: Ledger>(
+    alloc: Global,
+    tree: &TreeOver<A, L, S>,
+    key: &A::Key,
+    steps: &mut Steps<C>,
+) -> Result<A::Aug, NoMemory>
+    ensures value { IfOk result (λ aug. aug ≡ fold_of A.base_of A.unit_of A.combined (right_of A.Key.cmp tree.now.entries key.now)) }
+    ensures succeeds { A.never_refuses → IsOk result }
+    ensures cost { steps.new ≤ steps.old + (8 * tree.now.height + 16 * S.SIZE) }
+{
+    let range = KeyRange::AtLeast { lo: key };
+    fold_span(alloc, Span { tree, range }, steps)
+}
+
+/// The fold of the entries with keys from `lo` to `hi`, both included, from the stored folds between two paths and at most two
+/// blocks. It takes no memory, and refuses nothing, where the `Augment` never refuses.
+pub fn aug_range<A: Augment, L: Leaf<A::Key, A::Val>, S: BlockSize, C: Ledger>(
+    alloc: Global,
+    tree: &TreeOver<A, L, S>,
+    lo: &A::Key,
+    hi: &A::Key,
+    steps: &mut Steps<C>,
+) -> Result<A::Aug, NoMemory>
+    ensures value { IfOk result (λ aug. aug ≡ range_fold A.Key.cmp A.base_of A.unit_of A.combined tree.now.entries lo.now hi.now) }
+    ensures succeeds { A.never_refuses → IsOk result }
+    ensures cost { steps.new ≤ steps.old + (8 * tree.now.height + 16 * S.SIZE) }
+{
+    let range = KeyRange::Between { lo, hi };
+    fold_span(alloc, Span { tree, range }, steps)
+}
+
+/// The stored fold of all entries.
+fn whole_fold<A: Augment, L: Leaf<A::Key, A::Val>, S: BlockSize>(
+    alloc: Global,
+    tree: &TreeOver<A, L, S>,
+) -> Result<A::Aug, NoMemory>
+    ensures value { IfOk result (λ aug. aug ≡ fold_of A.base_of A.unit_of A.combined tree.now.entries) }
+    ensures succeeds { A.never_refuses → IsOk result }
+{
+    match tree.aug() {
+        Some(fold) => fold.share(alloc),
+        None => Ok(A::unit()),
+    }
+}
+
+/// The fold of the entries of a leaf in a range, in one walk that ends behind the range.
+fn fold_block<A: Augment, L: Leaf<A::Key, A::Val>, C: Ledger>(
+    alloc: Global,
+    leaf: &L,
+    range: &KeyRange<'_, A::Key>,
+    steps: &mut Steps<C>,
+) -> Result<A::Aug, NoMemory>
+    requires { IsIncreasing A.Key.cmp (L.entries leaf.now) }
+    ensures value { IfOk result (λ aug. aug ≡ fold_of A.base_of A.unit_of A.combined (within A.Key.cmp range.now (L.entries leaf.now))) }
+    ensures succeeds { A.never_refuses → IsOk result }
+    ensures cost { steps.new ≤ steps.old + 3 * length (L.entries leaf.now) }
+{
+    let mut fold = A::unit();
+    let mut walk = leaf.walk();
+    for _at in 0..leaf.len() {
+        let Some((key, val)) = leaf.walk_next(alloc, &mut walk)? else {
+            unreachable!()
+        };
+        if range.ends_before(&key, steps) {
+            return Ok(fold);
+        }
+        if range.begins_after(&key, steps) {
+            continue;
+        }
+        let base = A::base(&key, &val, alloc)?;
+        fold = A::combine(&fold, &base, alloc, steps)?;
+    }
+    Ok(fold)
+}
+
+/// The fold of the entries in a range.
+fn fold_span<A: Augment, L: Leaf<A::Key, A::Val>, S: BlockSize, C: Ledger>(
+    alloc: Global,
+    span: Span<'_, A, L, S>,
+    steps: &mut Steps<C>,
+) -> Result<A::Aug, NoMemory>
+    ensures value { IfOk result (λ aug. aug ≡ fold_of A.base_of A.unit_of A.combined (within A.Key.cmp span.entry.range span.entry.tree.now.entries)) }
+    ensures succeeds { A.never_refuses → IsOk result }
+    ensures cost { steps.new ≤ steps.old + fold_cost span.entry.range span.entry.tree.now.height S.SIZE }
+{
+    let Span { tree, range } = span;
+    if range.is_all() {
+        return whole_fold(alloc, tree);
+    }
+    match tree.look() {
+        LookOver::Empty => Ok(A::unit()),
+        LookOver::Block { leaf } => fold_block::<A, L, C>(alloc, leaf, &range, steps),
+        LookOver::Node {
+            left,
+            key,
+            val,
+            right,
+        } => {
+            if range.ends_before(key, steps) {
+                return fold_span(alloc, Span { tree: left, range }, steps);
+            }
+            if range.begins_after(key, steps) {
+                return fold_span(alloc, Span { tree: right, range }, steps);
+            }
+            let low = Span {
+                tree: left,
+                range: range.left_part(),
+            };
+            let high = Span {
+                tree: right,
+                range: range.right_part(),
+            };
+            let before = fold_span(alloc, low, steps)?;
+            let middle = A::base(key, val, alloc)?;
+            let front = A::combine(&before, &middle, alloc, steps)?;
+            let after = fold_span(alloc, high, steps)?;
+            A::combine(&front, &after, alloc, steps)
+        }
+    }
+}

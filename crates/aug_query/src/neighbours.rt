@@ -1,0 +1,150 @@
+//! The entries nearest to a key.
+ghost use Rattle.std.specs.Prelude.{◌≡◌, None, IfOk, IsOk};
+ghost use Rattle.std.specs.List.{last_or};
+ghost use Rattle.map_model.specs.Entries.{IsIncreasing};
+ghost use Rattle.map_model.specs.Parts.{next, prev};
+
+use crate::places::{select, share_entry};
+use aug_monoid::{Augment, Key, Leaf, NoMemory, Share, Steps};
+use join_core::Part;
+use std::alloc::Global;
+use std::cmp::Ordering;
+use std::sync::ledger::Ledger;
+use tree_base::{BlockSize, LookOver, TreeOver};
+
+/// The entry with the least key greater than `key`; none exactly where no key is greater. It takes no memory where the shares
+/// of keys and values take none.
+pub fn next<A: Augment, L: Leaf<A::Key, A::Val>, S: BlockSize, C: Ledger>(
+    alloc: Global,
+    tree: &TreeOver<A, L, S>,
+    key: &A::Key,
+    steps: &mut Steps<C>,
+) -> Result<Option<(A::Key, A::Val)>, NoMemory>
+    ensures value { IfOk result (λ entry. entry ≡ next A.Key.cmp tree.now.entries key.now) }
+    ensures succeeds { A.Key.never_refuses → A.Val.never_refuses → IsOk result }
+{
+    next_in(alloc, Part { tree }, key, steps)
+}
+
+fn next_in<A: Augment, L: Leaf<A::Key, A::Val>, S: BlockSize, C: Ledger>(
+    alloc: Global,
+    part: Part<'_, A, L, S>,
+    key: &A::Key,
+    steps: &mut Steps<C>,
+) -> Result<Option<(A::Key, A::Val)>, NoMemory>
+    ensures value { IfOk result (λ entry. entry ≡ next A.Key.cmp part.entry.tree.now.entries key.now) }
+    ensures succeeds { A.Key.never_refuses → A.Val.never_refuses → IsOk result }
+{
+    match part.tree.look() {
+        LookOver::Empty => Ok(None),
+        LookOver::Block { leaf } => next_in_block(alloc, leaf, key, steps),
+        LookOver::Node {
+            left,
+            key: middle,
+            val,
+            right,
+        } => match key.order(middle, steps) {
+            Ordering::Less => match next_in(alloc, Part { tree: left }, key, steps)? {
+                Some(entry) => Ok(Some(entry)),
+                None => Ok(Some(share_entry(alloc, middle, val)?)),
+            },
+            Ordering::Equal => select(alloc, right, 0),
+            Ordering::Greater => next_in(alloc, Part { tree: right }, key, steps),
+        },
+    }
+}
+
+/// The entry with the greatest key less than `key`; none exactly where no key is less. It takes no memory where the shares of
+/// keys and values take none.
+pub fn prev<A: Augment, L: Leaf<A::Key, A::Val>, S: BlockSize, C: Ledger>(
+    alloc: Global,
+    tree: &TreeOver<A, L, S>,
+    key: &A::Key,
+    steps: &mut Steps<C>,
+) -> Result<Option<(A::Key, A::Val)>, NoMemory>
+    ensures value { IfOk result (λ entry. entry ≡ prev A.Key.cmp tree.now.entries key.now) }
+    ensures succeeds { A.Key.never_refuses → A.Val.never_refuses → IsOk result }
+{
+    prev_in(alloc, Part { tree }, key, steps)
+}
+
+fn prev_in<A: Augment, L: Leaf<A::Key, A::Val>, S: BlockSize, C: Ledger>(
+    alloc: Global,
+    part: Part<'_, A, L, S>,
+    key: &A::Key,
+    steps: &mut Steps<C>,
+) -> Result<Option<(A::Key, A::Val)>, NoMemory>
+    ensures value { IfOk result (λ entry. entry ≡ prev A.Key.cmp part.entry.tree.now.entries key.now) }
+    ensures succeeds { A.Key.never_refuses → A.Val.never_refuses → IsOk result }
+{
+    match part.tree.look() {
+        LookOver::Empty => Ok(None),
+        LookOver::Block { leaf } => prev_in_block(alloc, leaf, key, steps),
+        LookOver::Node {
+            left,
+            key: middle,
+            val,
+            right,
+        } => match key.order(middle, steps) {
+            Ordering::Less => prev_in(alloc, Part { tree: left }, key, steps),
+            Ordering::Equal => last(alloc, left),
+            Ordering::Greater => match prev_in(alloc, Part { tree: right }, key, steps)? {
+                Some(entry) => Ok(Some(entry)),
+                None => Ok(Some(share_entry(alloc, middle, val)?)),
+            },
+        },
+    }
+}
+
+fn next_in_block<K: Key, V: Share, L: Leaf<K, V>, C: Ledger>(
+    alloc: Global,
+    leaf: &L,
+    key: &K,
+    steps: &mut Steps<C>,
+) -> Result<Option<(K, V)>, NoMemory>
+    requires { IsIncreasing K.cmp (L.entries leaf.now) }
+    ensures value { IfOk result (λ entry. entry ≡ next K.cmp (L.entries leaf.now) key.now) }
+    ensures succeeds { K.never_refuses → V.never_refuses → IsOk result }
+{
+    let place = leaf.seek(key, steps);
+    if place.hit {
+        let _number = leaf.len();
+        leaf.get_at(alloc, place.at + 1)
+    } else {
+        leaf.get_at(alloc, place.at)
+    }
+}
+
+fn prev_in_block<K: Key, V: Share, L: Leaf<K, V>, C: Ledger>(
+    alloc: Global,
+    leaf: &L,
+    key: &K,
+    steps: &mut Steps<C>,
+) -> Result<Option<(K, V)>, NoMemory>
+    requires { IsIncreasing K.cmp (L.entries leaf.now) }
+    ensures value { IfOk result (λ entry. entry ≡ prev K.cmp (L.entries leaf.now) key.now) }
+    ensures succeeds { K.never_refuses → V.never_refuses → IsOk result }
+{
+    let before = leaf.seek(key, steps).at;
+    if before == 0 {
+        Ok(None)
+    } else {
+        leaf.get_at(alloc, before - 1)
+    }
+}
+
+/// The entry with the greatest key.
+fn last<A: Augment, L: Leaf<A::Key, A::Val>, S: BlockSize>(
+    alloc: Global,
+    tree: &TreeOver<A, L, S>,
+) -> Result<Option<(A::Key, A::Val)>, NoMemory>
+    ensures value { IfOk result (λ entry. entry ≡ last_or None tree.now.entries) }
+    ensures succeeds { A.Key.never_refuses → A.Val.never_refuses → IsOk result }
+{
+    let size = tree.size();
+    if size == 0 {
+        Ok(None)
+    } else {
+        select(alloc, tree, size - 1)
+    }
+}

@@ -1,0 +1,44 @@
+-- Two trees cut at an entry of one of them.
+use Rattle.std.proofs.Common.{◌≡◌, ◌+◌, ◌<◌, List, ◌∷◌, ◌++◌, length, Option, Some, ap, subst, ◌∙◌, arith}
+use Rattle.std.specs.declared.cmp.Ordering.{Ordering}
+use Rattle.std.specs.Ordering.{is_lt, is_gt}
+use Rattle.map_model.specs.Contents.{Contents}
+use Rattle.map_model.specs.Entries.{IsIncreasing, lookup, below, above}
+use Rattle.map_model.proofs.Cuts.{length-around}
+use Rattle.map_model.proofs.Lengths.{length-filter_le}
+use Rattle.bulk_ops.specs.Answers.{IsPutTogether}
+use Rattle.bulk_ops.specs.Combination.{IsCombination, combined_entries, entry_at}
+
+module _ {K V : Type 0} {order : K → K → Ordering} {combined : List (K × V) → List (K × V) → List (K × V)} {kept : Option V → Option V → Option V} {first second : _} (laws : IsCombination order combined kept first second) where
+  -- an entry of the first
+  pub cut_at_first : (a b front back below' above' : Contents K V) (k : K) (v : V) (middle : Option (K × V)) → a.entries ≡ front.entries ++ (k, v) ∷ back.entries → IsIncreasing order a.entries → IsIncreasing order b.entries → below'.entries ≡ below order b.entries k → above'.entries ≡ above order b.entries k → middle ≡ entry_at k (kept (Some v) (lookup order b.entries k))
+      → IsPutTogether order (combined_entries combined) (a, b) (front, below') middle (back, above')
+  cut_at_first a b front back below' above' k v middle is s t low high m =
+      let split = laws.split_first front.entries k v back.entries b.entries (subst (IsIncreasing order) is s) t in
+      let whole : combined a.entries b.entries ≡ _ = ap (λ x. combined x b.entries) is ∙ split in
+      record {
+        whole = rw (low, high, m) whole;
+        increasing = rw (low, high, m) (subst (IsIncreasing order) whole (laws.increases a.entries b.entries s t));
+      }
+
+  -- an entry of the second
+  pub cut_at_second : (a b front back below' above' : Contents K V) (k : K) (w : V) (middle : Option (K × V)) → b.entries ≡ front.entries ++ (k, w) ∷ back.entries → IsIncreasing order a.entries → IsIncreasing order b.entries → below'.entries ≡ below order a.entries k → above'.entries ≡ above order a.entries k → middle ≡ entry_at k (kept (lookup order a.entries k) (Some w))
+      → IsPutTogether order (combined_entries combined) (a, b) (below', front) middle (above', back)
+  cut_at_second a b front back below' above' k w middle is s t low high m =
+      let split = laws.split_second a.entries front.entries k w back.entries s (subst (IsIncreasing order) is t) in
+      let whole : combined a.entries b.entries ≡ _ = ap (λ x. combined a.entries x) is ∙ split in
+      record {
+        whole = rw (low, high, m) whole;
+        increasing = rw (low, high, m) (subst (IsIncreasing order) whole (laws.increases a.entries b.entries s t));
+      }
+
+-- the parts are smaller than the whole
+module _ {K V : Type 0} (order : K → K → Ordering) where
+  pub smaller : (a b front back low high : List (K × V)) (e : K × V) (k : K) → a ≡ front ++ e ∷ back → low ≡ below order b k → high ≡ above order b k → (length front + length low < length a + length b) × (length back + length high < length a + length b)
+  smaller a b front back low high e k is is_low is_high =
+      let n = ap length is ∙ length-around front e back in
+      let p : length low ≡ length (below order b k) = ap length is_low in
+      let q : length high ≡ length (above order b k) = ap length is_high in
+      let p' = length-filter_le (λ (d : K × V). is_lt (order d.0 k)) b in
+      let q' = length-filter_le (λ (d : K × V). is_gt (order d.0 k)) b in
+      (omega (arith, n, p, p'), omega (arith, n, q, q'))

@@ -1,0 +1,56 @@
+-- Union, intersection and difference are combinations.
+use Rattle.std.proofs.Common.{◌≡◌, true, false, cond, List, [], ◌∷◌, ◌++◌, Some, None, is_none, refl, ◌∙◌}
+use Rattle.std.specs.List.{cons_option}
+use Rattle.std.specs.Option.{option_map, option_map_or}
+use Rattle.std.specs.declared.cmp.Ordering.{Ordering}
+use Rattle.std.specs.Cmp.{IsTotalOrder}
+use Rattle.map_model.specs.Order.{IsExact}
+use Rattle.map_model.specs.Entries.{lookup, below, above}
+use Rattle.map_model.specs.SetOperations.{union, intersect, difference}
+use Rattle.map_model.proofs.Filters.{filter-all_keys}
+use Rattle.map_model.proofs.Keys.{AllKeys-all}
+use Rattle.map_model.proofs.Unions.{united, IsIncreasing-union, nil-union, union-split_first, union-split_second}
+use Rattle.map_model.proofs.Intersections.{met, IsIncreasing-intersect, intersect-split_first, intersect-split_second}
+use Rattle.map_model.proofs.Differences.{IsIncreasing-difference, difference-split_first, difference-split_second}
+use Rattle.bulk_ops.specs.Combination.{IsCombination, entry_at, unless}
+
+-- nothing is in the intersection with the empty map
+intersect-nil : {K V : Type 0} (order : K → K → Ordering) (f : V → V → V) (a : List (K × V)) → intersect order f a [] ≡ []
+intersect-nil order f [] = refl
+intersect-nil order f (e ∷ a) = intersect-nil order f a
+
+module _ {K V : Type 0} {order : K → K → Ordering} (total : IsTotalOrder order) (exact : IsExact order) where
+  pub union_laws : (f : V → V → V) → IsCombination order (union order f) (united f) true true
+  union_laws f = record {
+    increases = λ a b s t. IsIncreasing-union total f a b s;
+    first_alone = λ a. refl;
+    second_alone = λ b t. nil-union total exact f b t;
+    split_first = λ l k v r b s t.
+        union-split_first total exact f l k v r b s t
+        ∙ elim (lookup order b k) as (λ o. union order f l (below order b k) ++ (k, option_map_or (λ w. f v w) o v) ∷ union order f r (above order b k) ≡ union order f l (below order b k) ++ cons_option (entry_at k (united f (Some v) o)) (union order f r (above order b k))) [ None ↦ refl | Some w ↦ refl ];
+    split_second = λ a l k w r s t. union-split_second total exact f a l k w r s t;
+  }
+
+  pub intersection_laws : (f : V → V → V) → IsCombination order (intersect order f) (met f) false false
+  intersection_laws f = record {
+    increases = λ a b s t. IsIncreasing-intersect order f a b s;
+    first_alone = λ a. intersect-nil order f a;
+    second_alone = λ b t. refl;
+    split_first = λ l k v r b s t.
+        intersect-split_first total exact f l k v r b s
+        ∙ elim (lookup order b k) as (λ o. intersect order f l (below order b k) ++ cons_option (option_map (λ w. (k, f v w)) o) (intersect order f r (above order b k)) ≡ intersect order f l (below order b k) ++ cons_option (entry_at k (met f (Some v) o)) (intersect order f r (above order b k))) [ None ↦ refl | Some w ↦ refl ];
+    split_second = λ a l k w r s t.
+        intersect-split_second total exact f a l k w r s t
+        ∙ elim (lookup order a k) as (λ o. intersect order f (below order a k) l ++ cons_option (option_map (λ v. (k, f v w)) o) (intersect order f (above order a k) r) ≡ intersect order f (below order a k) l ++ cons_option (entry_at k (met f o (Some w))) (intersect order f (above order a k) r)) [ None ↦ refl | Some v ↦ refl ];
+  }
+
+  pub difference_laws : IsCombination {V = V} order (difference order) unless true false
+  difference_laws = record {
+    increases = λ a b s t. IsIncreasing-difference order a b s;
+    first_alone = λ a. filter-all_keys (λ k. true) a (AllKeys-all (λ k. true ≡ true) (λ k. refl) a);
+    second_alone = λ b t. refl;
+    split_first = λ l k v r b s t.
+        difference-split_first total exact l k v r b s
+        ∙ elim (lookup order b k) as (λ o. difference order l (below order b k) ++ cond (is_none o) ((k, v) ∷ difference order r (above order b k)) (difference order r (above order b k)) ≡ difference order l (below order b k) ++ cons_option (entry_at k (unless (Some v) o)) (difference order r (above order b k))) [ None ↦ refl | Some w ↦ refl ];
+    split_second = λ a l k w r s t. difference-split_second total exact a l k w r s t;
+  }

@@ -1,0 +1,5 @@
+pub mod Answers
+pub mod Combination
+pub mod Found
+pub mod Batches
+pub mod Laws

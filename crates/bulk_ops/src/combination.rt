@@ -1,0 +1,43 @@
+//! Two maps that are combined key by key.
+ghost use Rattle.std.specs.Prelude.{◌≡◌, Bool, List, Option, Some, None, IfOk};
+ghost use Rattle.std.specs.Option.{option_map};
+ghost use Rattle.map_model.specs.Entries.{IsIncreasing};
+ghost use Rattle.bulk_ops.specs.Combination.{IsCombination};
+
+use aug_monoid::{Key, NoMemory, Share};
+use std::alloc::Global;
+
+/// What the combination of two maps has at each key, and how two slices are combined.
+pub(crate) trait Combination<K: Key, V: Share>: Drop {
+    ghost combined: { Self → List (K × V) → List (K × V) → List (K × V) };
+
+    /// What stands at a key, from what the two maps have there.
+    ghost kept: { Self → Option V → Option V → Option V };
+
+    /// Whether an entry that only the first map has stays.
+    ghost first_stays: { Self → Bool };
+
+    /// Whether an entry that only the second map has stays.
+    ghost second_stays: { Self → Bool };
+
+    fn keeps_first(&self) -> bool
+        ensures { result ≡ first_stays self.now };
+
+    fn keeps_second(&self) -> bool
+        ensures { result ≡ second_stays self.now };
+
+    fn keep(&self, alloc: Global, a: Option<&V>, b: Option<&V>) -> Result<Option<V>, NoMemory>
+        ensures { IfOk result (λ val. val ≡ kept self.now (option_map (λ v. v.now) a.entry) (option_map (λ v. v.now) b.entry)) };
+
+    fn combine_slices(
+        &self,
+        alloc: Global,
+        a: &[(K, V)],
+        b: &[(K, V)],
+    ) -> Result<Vec<(K, V)>, NoMemory>
+        requires first { IsIncreasing K.cmp a.now }
+        requires second { IsIncreasing K.cmp b.now }
+        ensures { IfOk result (λ v. v.items ≡ combined self.now a.now b.now) };
+
+    ghost laws: { (how : Self) → IsCombination K.cmp (combined how) (kept how) (first_stays how) (second_stays how) };
+}

@@ -1,0 +1,228 @@
+//! The combination of two trees as work that is divided.
+ghost use Rattle.std.specs.Prelude.{◌≡◌, ◌+◌, Some, IfOk};
+ghost use Rattle.std.specs.Option.{option_map};
+ghost use Rattle.map_model.specs.Entries.{lookup, IsIncreasing};
+ghost use Rattle.map_model.specs.Balance.{IsBlockSize};
+ghost use Rattle.fork_join.specs.Openings.{IsOpened};
+ghost use Rattle.bulk_ops.specs.Answers.{IsAnswer, IsPutTogether};
+ghost use Rattle.bulk_ops.specs.Combination.{combined_entries, entry_count};
+
+use crate::combination::Combination;
+use crate::middle::join_around;
+use crate::small::{SLICED_BLOCKS, entries_of, kept_or_none, tree_of};
+use crate::uncounted::split_at;
+use aug_monoid::{Augment, Key, Leaf, NoMemory, Share, SyncAugment};
+use fork_join::{Cut, Divide, Gate, Opened, divide};
+use std::alloc::Global;
+use std::marker::{Send, Sync};
+use std::thread::Threads;
+use tree_base::{BlockSize, LookOver, TreeOver};
+use tree_split::PartsOver;
+
+#[derive(Drop)]
+struct Combining<'a, W> {
+    how: &'a W,
+}
+
+impl<
+    'a,
+    A: Augment,
+    L: Leaf<A::Key, A::Val>,
+    S: BlockSize,
+    W: Combination<A::Key, A::Val> + Send + Sync,
+> Divide<(TreeOver<A, L, S>, TreeOver<A, L, S>), Option<(A::Key, A::Val)>, TreeOver<A, L, S>>
+    for Combining<'a, W> {
+    ghost fits = { λ _ _. Unit {0} };
+
+    ghost answers = { λ work. IsAnswer (combined_entries (W.combined work.how.now)) };
+
+    ghost divides = { λ work. IsPutTogether A.Key.cmp (combined_entries (W.combined work.how.now)) };
+
+    ghost extent = { λ _. entry_count };
+
+    fn size(&self, part: &(TreeOver<A, L, S>, TreeOver<A, L, S>)) -> u64 {
+        part.0.size() + part.1.size()
+    }
+
+    fn open(
+        &self,
+        alloc: Global,
+        part: (TreeOver<A, L, S>, TreeOver<A, L, S>),
+    ) -> Result<
+        Opened<(TreeOver<A, L, S>, TreeOver<A, L, S>), Option<(A::Key, A::Val)>, TreeOver<A, L, S>>,
+        NoMemory,
+    > {
+        let (a, b) = part;
+        open_sides::<A, L, S, W>(alloc, self.how, a, b)
+    }
+
+    fn close(
+        &self,
+        alloc: Global,
+        left: TreeOver<A, L, S>,
+        middle: Option<(A::Key, A::Val)>,
+        right: TreeOver<A, L, S>,
+    ) -> Result<TreeOver<A, L, S>, NoMemory> {
+        join_around::<A, L, S>(alloc, &left, middle, &right)
+    }
+}
+
+/// Two trees of which one is empty, which are small and of like sizes, or which are cut at the root of the greater one.
+fn open_sides<A: Augment, L: Leaf<A::Key, A::Val>, S: BlockSize, W: Combination<A::Key, A::Val>>(
+    alloc: Global,
+    how: &W,
+    a: TreeOver<A, L, S>,
+    b: TreeOver<A, L, S>,
+) -> Result<
+    Opened<(TreeOver<A, L, S>, TreeOver<A, L, S>), Option<(A::Key, A::Val)>, TreeOver<A, L, S>>,
+    NoMemory,
+>
+    ensures { IfOk result (IsOpened (λ _. Unit {0}) (IsAnswer (combined_entries (W.combined how.now)) (a, b)) (IsPutTogether A.Key.cmp (combined_entries (W.combined how.now)) (a, b)) entry_count (entry_count (a, b))) }
+{
+    let first = a.size();
+    let second = b.size();
+    if first == 0 {
+        return Ok(Opened::Done(kept_or_none(b, how.keeps_second())));
+    }
+    if second == 0 {
+        return Ok(Opened::Done(kept_or_none(a, how.keeps_first())));
+    }
+    let both = first + second;
+    let few = both <= 4 * a.block_size();
+    let alike = both / 8 <= first.min(second);
+    if few || (alike && both <= SLICED_BLOCKS * a.block_size()) {
+        return Ok(Opened::Done(combine_small(alloc, how, &a, &b)?));
+    }
+    if first >= second {
+        cut_first(alloc, how, &a, &b)
+    } else {
+        cut_second(alloc, how, &a, &b)
+    }
+}
+
+/// Two trees combined as slices.
+fn combine_small<A: Augment, L: Leaf<A::Key, A::Val>, S: BlockSize, W: Combination<A::Key, A::Val>>(
+    alloc: Global,
+    how: &W,
+    a: &TreeOver<A, L, S>,
+    b: &TreeOver<A, L, S>,
+) -> Result<TreeOver<A, L, S>, NoMemory>
+    requires first { IsIncreasing A.Key.cmp a.now.entries }
+    requires second { IsIncreasing A.Key.cmp b.now.entries }
+    ensures { IfOk result (IsAnswer (combined_entries (W.combined how.now)) (a.now, b.now)) }
+{
+    let _least = a.block_size();
+    let left = entries_of(alloc, a)?;
+    let right = entries_of(alloc, b)?;
+    let both = how.combine_slices(alloc, &left, &right)?;
+    tree_of(alloc, &both)
+}
+
+/// What stays of a key and what two maps have there.
+fn keep_entry<K: Key, V: Share, W: Combination<K, V>>(
+    alloc: Global,
+    how: &W,
+    key: &K,
+    a: Option<&V>,
+    b: Option<&V>,
+) -> Result<Option<(K, V)>, NoMemory>
+    ensures { IfOk result (λ middle. middle ≡ option_map (λ val. (key.now, val)) (W.kept how.now (option_map (λ v. v.now) a.entry) (option_map (λ v. v.now) b.entry))) }
+{
+    match how.keep(alloc, a, b)? {
+        Some(val) => Ok(Some((key.share(alloc)?, val))),
+        None => Ok(None),
+    }
+}
+
+/// Two trees cut at the root of the first.
+fn cut_first<A: Augment, L: Leaf<A::Key, A::Val>, S: BlockSize, W: Combination<A::Key, A::Val>>(
+    alloc: Global,
+    how: &W,
+    a: &TreeOver<A, L, S>,
+    b: &TreeOver<A, L, S>,
+) -> Result<
+    Opened<(TreeOver<A, L, S>, TreeOver<A, L, S>), Option<(A::Key, A::Val)>, TreeOver<A, L, S>>,
+    NoMemory,
+>
+    requires first { IsIncreasing A.Key.cmp a.now.entries }
+    requires second { IsIncreasing A.Key.cmp b.now.entries }
+    ensures { IfOk result (IsOpened (λ _. Unit {0}) (IsAnswer (combined_entries (W.combined how.now)) (a.now, b.now)) (IsPutTogether A.Key.cmp (combined_entries (W.combined how.now)) (a.now, b.now)) entry_count (entry_count (a.now, b.now))) }
+{
+    match a.look() {
+        LookOver::Node {
+            left,
+            key,
+            val,
+            right,
+        } => {
+            let PartsOver {
+                below,
+                found,
+                above,
+            } = split_at(alloc, b, key)?;
+            let middle = keep_entry(alloc, how, key, Some(val), found.as_ref())?;
+            let near = left.share(alloc)?;
+            let far = right.share(alloc)?;
+            Ok(Opened::Split((near, below), middle, (far, above)))
+        }
+        _ => Ok(Opened::Done(combine_small(alloc, how, a, b)?)),
+    }
+}
+
+/// Two trees cut at the root of the second.
+fn cut_second<A: Augment, L: Leaf<A::Key, A::Val>, S: BlockSize, W: Combination<A::Key, A::Val>>(
+    alloc: Global,
+    how: &W,
+    a: &TreeOver<A, L, S>,
+    b: &TreeOver<A, L, S>,
+) -> Result<
+    Opened<(TreeOver<A, L, S>, TreeOver<A, L, S>), Option<(A::Key, A::Val)>, TreeOver<A, L, S>>,
+    NoMemory,
+>
+    requires first { IsIncreasing A.Key.cmp a.now.entries }
+    requires second { IsIncreasing A.Key.cmp b.now.entries }
+    ensures { IfOk result (IsOpened (λ _. Unit {0}) (IsAnswer (combined_entries (W.combined how.now)) (a.now, b.now)) (IsPutTogether A.Key.cmp (combined_entries (W.combined how.now)) (a.now, b.now)) entry_count (entry_count (a.now, b.now))) }
+{
+    match b.look() {
+        LookOver::Node {
+            left,
+            key,
+            val,
+            right,
+        } => {
+            let PartsOver {
+                below,
+                found,
+                above,
+            } = split_at(alloc, a, key)?;
+            let middle = keep_entry(alloc, how, key, found.as_ref(), Some(val))?;
+            let near = left.share(alloc)?;
+            let far = right.share(alloc)?;
+            Ok(Opened::Split((below, near), middle, (above, far)))
+        }
+        _ => Ok(Opened::Done(combine_small(alloc, how, a, b)?)),
+    }
+}
+
+/// The combination of two trees.
+pub(crate) fn combine<
+    R: Threads + Sync,
+    G: Gate,
+    A: SyncAugment,
+    L: Leaf<A::Key, A::Val> + Send + Sync,
+    S: BlockSize + Send + Sync,
+    W: Combination<A::Key, A::Val> + Send + Sync,
+>(
+    rt: &R,
+    alloc: Global,
+    gate: &G,
+    cut: Cut,
+    a: &TreeOver<A, L, S>,
+    b: &TreeOver<A, L, S>,
+    how: &W,
+) -> Result<TreeOver<A, L, S>, NoMemory>
+    ensures { IfOk result (λ tree. tree.entries ≡ W.combined how.now a.now.entries b.now.entries) }
+{
+    let sides = (a.share(alloc)?, b.share(alloc)?);
+    divide(rt, alloc, gate, cut, &Combining { how }, sides)
+}

@@ -1,0 +1,30 @@
+//! Operations on whole maps, which fork over the halves of their work.
+//!
+//! Each call takes the runtime, the allocator, a gate and a cut first, and its answer depends on none
+//! of them. The only refusal is want of memory, which leaves all arguments as they were.
+#![tactic(auto)]
+
+mod block;
+mod building;
+mod combination;
+mod combining;
+mod deleting;
+mod differing;
+mod filtering;
+mod meeting;
+mod middle;
+mod putting;
+mod reducing;
+mod small;
+mod sorting;
+mod uncounted;
+mod uniting;
+
+pub use building::build;
+pub use deleting::multi_del;
+pub use differing::difference;
+pub use filtering::filter;
+pub use meeting::intersect;
+pub use putting::multi_put;
+pub use reducing::map_reduce;
+pub use uniting::union;

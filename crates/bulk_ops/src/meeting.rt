@@ -1,0 +1,79 @@
+//! Intersection.
+ghost use Rattle.std.specs.Prelude.{◌≡◌, false, IfOk};
+ghost use Rattle.map_model.specs.SetOperations.{intersect as intersection_of_entries};
+ghost use Rattle.map_model.proofs.Intersections.{met};
+ghost use Rattle.bulk_ops.specs.Laws.{intersection_laws};
+
+use crate::combination::Combination;
+use crate::combining::combine;
+use aug_monoid::{Key, Leaf, NoMemory, Resolve, Share, SyncAugment};
+use entry_lists::intersect_of;
+use fork_join::{Cut, Gate};
+use std::alloc::Global;
+use std::marker::{Send, Sync};
+use std::thread::Threads;
+use tree_base::{BlockSize, TreeOver};
+
+#[derive(Drop)]
+struct Meeting<'a, H> {
+    how: &'a H,
+}
+
+impl<'a, K: Key, V: Share, H: Resolve<V>> Combination<K, V> for Meeting<'a, H> {
+    ghost combined = { λ work. intersection_of_entries K.cmp (H.resolved work.how.now) };
+
+    ghost kept = { λ work. met (H.resolved work.how.now) };
+
+    ghost first_stays = { λ _. false };
+
+    ghost second_stays = { λ _. false };
+
+    ghost laws = { λ work. intersection_laws K.total K.exact (H.resolved work.how.now) };
+
+    fn keeps_first(&self) -> bool {
+        false
+    }
+
+    fn keeps_second(&self) -> bool {
+        false
+    }
+
+    fn keep(&self, alloc: Global, a: Option<&V>, b: Option<&V>) -> Result<Option<V>, NoMemory> {
+        match (a, b) {
+            (Some(first), Some(second)) => Ok(Some(self.how.resolve(alloc, first, second)?)),
+            _ => Ok(None),
+        }
+    }
+
+    fn combine_slices(
+        &self,
+        alloc: Global,
+        a: &[(K, V)],
+        b: &[(K, V)],
+    ) -> Result<Vec<(K, V)>, NoMemory> {
+        intersect_of::<K, V, H>(alloc, a, b, self.how)
+    }
+}
+
+/// The entries whose keys both maps have, with what `how` makes of the value in `a` and the value in
+/// `b`. It works as `union` does, in the same time. `NoMemory` for want of memory alone.
+pub fn intersect<
+    R: Threads + Sync,
+    G: Gate,
+    A: SyncAugment,
+    L: Leaf<A::Key, A::Val> + Send + Sync,
+    S: BlockSize + Send + Sync,
+    H: Resolve<A::Val> + Send + Sync,
+>(
+    rt: &R,
+    alloc: Global,
+    gate: &G,
+    cut: Cut,
+    a: &TreeOver<A, L, S>,
+    b: &TreeOver<A, L, S>,
+    how: &H,
+) -> Result<TreeOver<A, L, S>, NoMemory>
+    ensures { IfOk result (λ tree. tree.entries ≡ intersection_of_entries A.Key.cmp (H.resolved how.now) a.now.entries b.now.entries) }
+{
+    combine(rt, alloc, gate, cut, a, b, &Meeting { how })
+}

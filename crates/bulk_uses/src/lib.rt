@@ -1,0 +1,11 @@
+//! The bulk operations at concrete types, in threads.
+#![tactic(auto)]
+
+#[cfg(test)]
+mod gate_tests;
+#[cfg(test)]
+mod refusal_tests;
+#[cfg(test)]
+mod runs;
+#[cfg(test)]
+mod tests;
