@@ -1,0 +1,11 @@
+use Rattle.std.proofs.Common.{refl, arith}
+use Rattle.tree_uses.proofs.tests.growing.falling_heights.Goals as goal
+
+pub overflow_sub-key : goal.overflow_sub-key
+overflow_sub-key g c = omega (arith, c.loop-gone-test.true)
+
+pub same-tree : goal.same-tree
+same-tree g c = refl
+
+pub loop-gone-preserved : goal.loop-gone-preserved
+loop-gone-preserved g c = tt

@@ -1,0 +1,8 @@
+//! Maps at concrete types.
+mod every_type;
+mod growing;
+mod joining;
+mod probe;
+mod refusing;
+mod small;
+mod watching;
