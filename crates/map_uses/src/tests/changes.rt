@@ -59,6 +59,19 @@ fn put_together<L: Leaf<u64, u64>, const B: usize, C: Ledger>(
 
 type Table = (Vec<Entries>, Vec<Entries>, Vec<Entries>);
 
+fn changes_in<L: Leaf<u64, u64>, const B: usize, C: Ledger>(
+    alloc: Global,
+    steps: &mut Steps<C>,
+) -> Result<Table, NoMemory>
+    requires size { IsBlockSize B }
+{
+    let map: Sums<L, B> = map_of(alloc, &[(6, 60), (2, 20), (8, 80), (4, 40)], steps)?;
+    let single = changed(alloc, &map, steps)?;
+    let apart = taken_apart(alloc, &map, steps)?;
+    let together = put_together(alloc, &map, steps)?;
+    Ok((single, apart, together))
+}
+
 fn changes_counted<L: Leaf<u64, u64>, const B: usize, C: Ledger>(
     alloc: Global,
     blank: Blank,
@@ -69,11 +82,7 @@ fn changes_counted<L: Leaf<u64, u64>, const B: usize, C: Ledger>(
     requires some { 0 < blank.parts }
 {
     let mut steps = Steps::<C>::start(blank);
-    let map: Sums<L, B> = map_of(alloc, &[(6, 60), (2, 20), (8, 80), (4, 40)], &mut steps)?;
-    let single = changed(alloc, &map, &mut steps)?;
-    let apart = taken_apart(alloc, &map, &mut steps)?;
-    let together = put_together(alloc, &map, &mut steps)?;
-    Ok((single, apart, together))
+    changes_in::<L, B, C>(alloc, &mut steps)
 }
 
 fn changes<L: Leaf<u64, u64>, const B: usize>(alloc: Global) -> Result<Table, NoMemory>
@@ -116,16 +125,23 @@ fn one_entry_at_a_time(rt: HostRuntime) -> Result<(), Fail> {
 type Told = (u64, u32, u64, Option<u64>);
 
 /// What a map tells: its size, its height, the sum of its values, and the value at a key.
+fn told_in<L: Leaf<u64, u64>, C: Ledger>(
+    alloc: Global,
+    steps: &mut Steps<C>,
+) -> Result<Told, NoMemory> {
+    let map: Sums<L, 1> = map_of(alloc, &[(6, 60), (2, 20), (8, 80), (4, 40)], steps)?;
+    let sum = map.aug().map_or(0, |aug| aug.sum);
+    let found = map.get(alloc, &8, steps)?;
+    Ok((map.size(), map.height(), sum, found))
+}
+
 fn told_counted<L: Leaf<u64, u64>, C: Ledger>(alloc: Global, blank: Blank) -> Result<Told, NoMemory>
     requires name { blank.name ≡ C.name }
     requires parts { blank.parts ≡ C.parts }
     requires some { 0 < blank.parts }
 {
     let mut steps = Steps::<C>::start(blank);
-    let map: Sums<L, 1> = map_of(alloc, &[(6, 60), (2, 20), (8, 80), (4, 40)], &mut steps)?;
-    let sum = map.aug().map_or(0, |aug| aug.sum);
-    let found = map.get(alloc, &8, &mut steps)?;
-    Ok((map.size(), map.height(), sum, found))
+    told_in::<L, C>(alloc, &mut steps)
 }
 
 fn told<L: Leaf<u64, u64>>(alloc: Global) -> Result<Told, NoMemory> {

@@ -1,10 +1,9 @@
 //! Numbers that count how often they are compared.
-ghost use Rattle.std.specs.Prelude.{◌≡◌, ℕ, IfOk, nat_eq, nat_cmp, refl};
-ghost use Rattle.std.specs.Ordering.{as_partial_cmp};
-ghost use Rattle.std.specs.Cmp.{partial_equiv_from_equiv, partial_order_from_agreeing_total};
-ghost use Rattle.std.proofs.lemmas.Cmp.{nat_cmp_total, nat_eq_equiv};
-ghost use Rattle.std.specs.Cmp.Rules.{comparing};
+ghost use Rattle.std.specs.Prelude.{◌≡◌, ◌==◌, IfOk};
 ghost use Rattle.std.proofs.Common.{rules};
+ghost use Rattle.std.specs.Cmp.{nat_cmp_total, partial_order_from_own_ties};
+ghost use Rattle.std.specs.Cmp.Rules.{comparing};
+ghost use Rattle.std.specs.Ordering.{nat_cmp, as_partial_cmp};
 ghost use Rattle.map_model.proofs.NatKeys.{nat_exact};
 
 use aug_monoid::{Key, NoMemory, Share, Steps};
@@ -34,17 +33,15 @@ impl Counted {
     pub(super) fn new(number: u64, compared: &Arc<AtomicU64>) -> Result<Counted, NoMemory>
         ensures { IfOk result (λ k. k ≡ number) }
     {
-        match Arc::try_clone(compared) {
-            Ok(compared) => Ok(Counted { number, compared }),
-            Err(_) => Err(NoMemory),
-        }
+        let compared = Arc::try_clone(compared)?;
+        Ok(Counted { number, compared })
     }
 }
 
 impl PartialEq for Counted {
-    ghost eq = { nat_eq };
+    ghost eq = { ◌==◌ };
 
-    ghost laws = { partial_equiv_from_equiv nat_eq_equiv };
+    ghost laws = { Prim.search (comparing, rules) };
 
     fn eq(&self, other: &Counted) -> bool {
         self.number == other.number
@@ -52,13 +49,13 @@ impl PartialEq for Counted {
 }
 
 impl Eq for Counted {
-    ghost laws = { nat_eq_equiv };
+    ghost laws = { Prim.search (comparing, rules) };
 }
 
 impl PartialOrd for Counted {
     ghost partial_cmp = { as_partial_cmp nat_cmp };
 
-    ghost laws = { partial_order_from_agreeing_total nat_cmp nat_cmp_total (λ x y. refl) (Prim.search (comparing, rules)) };
+    ghost laws = { partial_order_from_own_ties (Prim.search (comparing, rules)) (Prim.search (comparing, rules)) };
 
     fn partial_cmp(&self, other: &Counted) -> Option<cmp::Ordering> {
         Some(self.cmp(other))

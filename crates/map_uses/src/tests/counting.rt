@@ -69,6 +69,20 @@ fn greatest<const B: usize, C: Ledger>(
 }
 
 /// Whether look-ups and folds keep within their bounds.
+fn within_in<R: Threads + Sync, const B: usize, C: Ledger>(
+    rt: &R,
+    alloc: Global,
+    steps: &mut Steps<C>,
+) -> Result<bool, NoMemory>
+    requires size { IsBlockSize B }
+{
+    let compared = Arc::new(alloc, AtomicU64::new(0))?;
+    let map = evens::<R, B>(rt, alloc, &compared)?;
+    let most = greatest(alloc, &map, &compared, steps)?;
+    let height = map.height() as u64;
+    Ok(most.get <= height + 9 && most.fold <= 8 * height + 16 * (B as u64))
+}
+
 fn within_counted<R: Threads + Sync, const B: usize, C: Ledger>(
     rt: &R,
     alloc: Global,
@@ -80,11 +94,7 @@ fn within_counted<R: Threads + Sync, const B: usize, C: Ledger>(
     requires some { 0 < blank.parts }
 {
     let mut steps = Steps::<C>::start(blank);
-    let compared = Arc::new(alloc, AtomicU64::new(0))?;
-    let map = evens::<R, B>(rt, alloc, &compared)?;
-    let most = greatest(alloc, &map, &compared, &mut steps)?;
-    let height = map.height() as u64;
-    Ok(most.get <= height + 9 && most.fold <= 8 * height + 16 * (B as u64))
+    within_in::<R, B, C>(rt, alloc, &mut steps)
 }
 
 fn within<R: Threads + Sync, const B: usize>(rt: &R, alloc: Global) -> Result<bool, NoMemory>

@@ -35,6 +35,15 @@ fn walked<L: Leaf<u64, u64>>(alloc: Global, map: &Sums<L, 32>) -> Result<Entries
 }
 
 /// The items of the cursor over a map of these entries.
+fn listed_in<L: Leaf<u64, u64>, C: Ledger>(
+    alloc: Global,
+    entries: &[(u64, u64)],
+    steps: &mut Steps<C>,
+) -> Result<Entries, NoMemory> {
+    let map = map_of::<L, 32, C>(alloc, entries, steps)?;
+    walked(alloc, &map)
+}
+
 fn listed_counted<L: Leaf<u64, u64>, C: Ledger>(
     alloc: Global,
     entries: &[(u64, u64)],
@@ -45,8 +54,7 @@ fn listed_counted<L: Leaf<u64, u64>, C: Ledger>(
     requires some { 0 < blank.parts }
 {
     let mut steps = Steps::<C>::start(blank);
-    let map = map_of::<L, 32, C>(alloc, entries, &mut steps)?;
-    walked(alloc, &map)
+    listed_in::<L, C>(alloc, entries, &mut steps)
 }
 
 fn listed<L: Leaf<u64, u64>>(alloc: Global, entries: &[(u64, u64)]) -> Result<Entries, NoMemory> {

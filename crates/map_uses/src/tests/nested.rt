@@ -96,6 +96,18 @@ impl Augment for FirstPosting {
 }
 
 /// The first weight of the entries from 2 on.
+fn first_weight_in<C: Ledger>(
+    alloc: Global,
+    steps: &mut Steps<C>,
+) -> Result<Option<(u64, u64)>, NoMemory> {
+    let mut map: PlainMap<FirstPosting> = MapOver::empty();
+    for (key, val) in [(1, 7), (2, 0), (3, 30), (4, 40)] {
+        map = map.put(alloc, key, val, steps)?;
+    }
+    let first = map.aug_right(alloc, &2, steps)?;
+    first.weights.select(alloc, 0)
+}
+
 fn first_weight_counted<C: Ledger>(
     alloc: Global,
     blank: Blank,
@@ -105,12 +117,7 @@ fn first_weight_counted<C: Ledger>(
     requires some { 0 < blank.parts }
 {
     let mut steps = Steps::<C>::start(blank);
-    let mut map: PlainMap<FirstPosting> = MapOver::empty();
-    for (key, val) in [(1, 7), (2, 0), (3, 30), (4, 40)] {
-        map = map.put(alloc, key, val, &mut steps)?;
-    }
-    let first = map.aug_right(alloc, &2, &mut steps)?;
-    first.weights.select(alloc, 0)
+    first_weight_in::<C>(alloc, &mut steps)
 }
 
 fn first_weight(alloc: Global) -> Result<Option<(u64, u64)>, NoMemory> {

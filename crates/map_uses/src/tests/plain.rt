@@ -36,6 +36,34 @@ fn assert_alike<R: Abort, L: Leaf<u64, u64>, const B: usize, C: Ledger>(
 }
 
 /// Runs random operations on a map and a list.
+fn run_in<R: Abort, L: Leaf<u64, u64>, const B: usize, C: Ledger>(
+    rt: &R,
+    alloc: Global,
+    seed: u64,
+    steps: &mut Steps<C>,
+) -> Result<(), NoMemory>
+    requires size { IsBlockSize B }
+{
+    let mut map: Sums<L, B> = MapOver::empty();
+    let mut list: Entries = Vec::new(alloc);
+    let mut number = seed;
+    for _turn in 0..300 {
+        number = number
+            .wrapping_mul(6364136223846793005)
+            .wrapping_add(1442695040888963407);
+        let key = (number >> 40) % 100;
+        if number >> 60 < 11 {
+            map = map.put(alloc, key, number >> 32, steps)?;
+            list = with_value(alloc, &list, key, number >> 32)?;
+        } else {
+            map = map.del(alloc, &key, steps)?;
+            list = without_key(alloc, &list, key)?;
+        }
+        assert_alike(rt, alloc, &map, &list, key, steps)?;
+    }
+    Ok(())
+}
+
 fn run_counted<R: Abort, L: Leaf<u64, u64>, const B: usize, C: Ledger>(
     rt: &R,
     alloc: Global,
@@ -48,24 +76,7 @@ fn run_counted<R: Abort, L: Leaf<u64, u64>, const B: usize, C: Ledger>(
     requires some { 0 < blank.parts }
 {
     let mut steps = Steps::<C>::start(blank);
-    let mut map: Sums<L, B> = MapOver::empty();
-    let mut list: Entries = Vec::new(alloc);
-    let mut number = seed;
-    for _turn in 0..300 {
-        number = number
-            .wrapping_mul(6364136223846793005)
-            .wrapping_add(1442695040888963407);
-        let key = (number >> 40) % 100;
-        if number >> 60 < 11 {
-            map = map.put(alloc, key, number >> 32, &mut steps)?;
-            list = with_value(alloc, &list, key, number >> 32)?;
-        } else {
-            map = map.del(alloc, &key, &mut steps)?;
-            list = without_key(alloc, &list, key)?;
-        }
-        assert_alike(rt, alloc, &map, &list, key, &mut steps)?;
-    }
-    Ok(())
+    run_in::<R, L, B, C>(rt, alloc, seed, &mut steps)
 }
 
 fn run<R: Abort, L: Leaf<u64, u64>, const B: usize>(

@@ -101,6 +101,18 @@ type Answers = (
     (u64, u64, u64, u64),
 );
 
+fn asked_in<L: Leaf<u64, u64>, const B: usize, C: Ledger>(
+    alloc: Global,
+    steps: &mut Steps<C>,
+) -> Result<Answers, NoMemory>
+    requires size { IsBlockSize B }
+{
+    let map: Sums<L, B> = map_of(alloc, &[(4, 40), (1, 10), (5, 50), (3, 34)], steps)?;
+    let entries = places(alloc, &map, steps)?;
+    let values = folds(alloc, &map, steps)?;
+    Ok((entries, values, sizes(alloc, &map)?))
+}
+
 fn asked_counted<L: Leaf<u64, u64>, const B: usize, C: Ledger>(
     alloc: Global,
     blank: Blank,
@@ -111,10 +123,7 @@ fn asked_counted<L: Leaf<u64, u64>, const B: usize, C: Ledger>(
     requires some { 0 < blank.parts }
 {
     let mut steps = Steps::<C>::start(blank);
-    let map: Sums<L, B> = map_of(alloc, &[(4, 40), (1, 10), (5, 50), (3, 34)], &mut steps)?;
-    let entries = places(alloc, &map, &mut steps)?;
-    let values = folds(alloc, &map, &mut steps)?;
-    Ok((entries, values, sizes(alloc, &map)?))
+    asked_in::<L, B, C>(alloc, &mut steps)
 }
 
 fn asked<L: Leaf<u64, u64>, const B: usize>(alloc: Global) -> Result<Answers, NoMemory>

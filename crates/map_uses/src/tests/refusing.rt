@@ -65,6 +65,22 @@ impl Augment for NotNine {
 type Sums<const B: usize> = Map<NotNine, PlainLeaf<u64, u64>, B>;
 
 /// A fold that is refused and one that isn't, a put that is refused, and the size of the map thereafter.
+fn refused_in<const B: usize, C: Ledger>(
+    alloc: Global,
+    steps: &mut Steps<C>,
+) -> Result<(bool, u64, bool, u64), NoMemory>
+    requires size { IsBlockSize B }
+{
+    let mut map: Sums<B> = MapOver::empty();
+    for (key, val) in [(1, 3), (2, 4), (3, 5)] {
+        map = map.put(alloc, key, val, steps)?;
+    }
+    let nine = map.aug_range(alloc, &2, &3, steps).is_err();
+    let seven = map.aug_range(alloc, &1, &2, steps)?;
+    let put = map.put(alloc, 1, 0, steps).is_err();
+    Ok((nine, seven, put, map.size()))
+}
+
 fn refused_counted<const B: usize, C: Ledger>(
     alloc: Global,
     blank: Blank,
@@ -75,14 +91,7 @@ fn refused_counted<const B: usize, C: Ledger>(
     requires some { 0 < blank.parts }
 {
     let mut steps = Steps::<C>::start(blank);
-    let mut map: Sums<B> = MapOver::empty();
-    for (key, val) in [(1, 3), (2, 4), (3, 5)] {
-        map = map.put(alloc, key, val, &mut steps)?;
-    }
-    let nine = map.aug_range(alloc, &2, &3, &mut steps).is_err();
-    let seven = map.aug_range(alloc, &1, &2, &mut steps)?;
-    let put = map.put(alloc, 1, 0, &mut steps).is_err();
-    Ok((nine, seven, put, map.size()))
+    refused_in::<B, C>(alloc, &mut steps)
 }
 
 fn refused<const B: usize>(alloc: Global) -> Result<(bool, u64, bool, u64), NoMemory>
