@@ -1,12 +1,15 @@
 -- Entries by their places.
-use Rattle.std.proofs.Common.{◌≡◌, ℕ, zero, suc, ◌+◌, ◌-◌, ◌<◌, cond, List, [], ◌∷◌, length, take, drop, Option, Some, None, is_some, IsSome, refl, ap, ◌∙◌, arith}
+use Rattle.std.proofs.Common.{◌≡◌, ℕ, zero, suc, ◌+◌, ◌-◌, ◌<◌, cond, List, [], ◌∷◌, length, take, drop, Option, Some, None, is_some, IsSome, refl, sym, ap, ◌∙◌, arith}
 use Rattle.std.specs.declared.cmp.Ordering.{Ordering}
+use Rattle.std.specs.Ordering.{is_eq}
 use Rattle.std.specs.Cmp.{IsTotalOrder}
 use Rattle.std.specs.List.{last_or, slice_get}
-use Rattle.std.proofs.lemmas.Bool.{false_from_ne_true}
+use Rattle.std.specs.Option.{option_and_then}
+use Rattle.std.proofs.lemmas.Bool.{false_from_ne_true, true≢false}
+use Rattle.std.proofs.lemmas.Option.{slice_get_within}
 use Rattle.map_model.specs.Entries.{IsIncreasing, lookup, below}
 use Rattle.map_model.specs.Parts.{rank, next, prev}
-use Rattle.map_model.proofs.Places.{below-take, above-drop}
+use Rattle.map_model.proofs.Places.{below-take, above-drop, lookup-place}
 
 module _ {X : Type 0} where
   first_behind : (m : List X) (i : ℕ) → slice_get (drop i m) 0 ≡ slice_get m i
@@ -32,6 +35,13 @@ module _ {X : Type 0} where
   last_place (x ∷ m) h = last_of None x m ∙ ap (slice_get (x ∷ m)) {x = length m} {y = length (x ∷ m) - 1} (omega arith)
 
 module _ {K V : Type 0} {order : K → K → Ordering} (total : IsTotalOrder order) (m : List (K × V)) (q : K) (s : IsIncreasing order m) where
+  -- a key that is found stands at a place of the list
+  pub rank_found : IsSome (lookup order m q) → rank order m q < length m
+  rank_found some = elim (slice_get m (rank order m q)) as (λ o. slice_get m (rank order m q) ≡ o → rank order m q < length m) [
+    | None ↦ λ is. absurd (true≢false (sym some ∙ ap is_some (lookup-place total m q s ∙ ap (option_and_then (λ e. cond (is_eq (order e.0 q)) (Some e.1) None)) is)))
+    | Some e ↦ λ is. slice_get_within m (rank order m q) e is
+  ] refl
+
   -- the next entry stands behind that of the key, or at the key's place
   pub next_behind : IsSome (lookup order m q) → next order m q ≡ slice_get m (rank order m q + 1)
   next_behind some =

@@ -1,4 +1,4 @@
-use Rattle.std.proofs.Common.{◌∷◌, ◌-◌, drop, sym, ◌∙◌, ap, subst, arith}
+use Rattle.std.proofs.Common.{◌≡◌, ◌∷◌, ◌++◌, ◌-◌, drop, length, sym, ◌∙◌, ap, subst, arith}
 use Rattle.std.proofs.lemmas.List.{drop_at, drop-append-le}
 use Rattle.aug_map.specs.Seats.{IsSeat}
 use Rattle.aug_map.proofs.Dropped.{drop_behind}

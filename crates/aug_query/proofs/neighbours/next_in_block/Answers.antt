@@ -2,13 +2,12 @@ use Rattle.std.proofs.Common.{◌+◌, sym, ap, ◌∙◌, arith}
 use Rattle.std.specs.List.{slice_get}
 use Rattle.std.proofs.lemmas.Bool.{true≢false}
 use Rattle.std.proofs.lemmas.Result.{IfOk-weaker}
-use Rattle.map_model.proofs.Cuts.{place_found}
-use Rattle.aug_query.proofs.Blocks.{next_behind, next_there}
+use Rattle.aug_query.proofs.Blocks.{rank_found, next_behind, next_there}
 use Rattle.aug_query.proofs.neighbours.next_in_block.Goals as goal
 
 pub overflow_add-place : goal.overflow_add-place
 overflow_add-place g c =
-    let found = place_found g.met.K.Ord.total g.met.K.Key.exact (g.L.Leaf.entries c.args.leaf.now) c.args.key.now c.requires (c.seek-place.ensures.hit.0 c.if-place.true) in
+    let found = rank_found g.met.K.Ord.total (g.L.Leaf.entries c.args.leaf.now) c.args.key.now c.requires (c.seek-place.ensures.hit.0 c.if-place.true) in
     omega (arith, found, c.seek-place.ensures.at, c.len-number.ensures)
 
 pub returns-then-place-clause-value : goal.returns-then-place-clause-value
