@@ -103,7 +103,10 @@ fn two_maps_are_combined_key_by_key(rt: HostRuntime) -> Result<(), Fail> {
             Combined::Difference,
         ] {
             for cut in [Cut::new(1, 1), Cut::new(4, 1), Cut::new(64, 1)] {
-                assert!(rt; answers(&rt, rt.alloc(), cut, call, a, b)?, "{call:?} {a:?} {b:?} {cut:?}");
+                assert!(rt;
+                    answers(&rt, rt.alloc(), cut, call, a, b)?,
+                    "{call:?} {a:?} {b:?} {cut:?}"
+                );
             }
         }
     }
@@ -120,7 +123,10 @@ fn a_later_pair_of_a_key_wins(rt: HostRuntime) -> Result<(), Fail> {
     let puts = [(4, 40), (3, 31), (4, 41)];
     let put = multi_put(&rt, rt.alloc(), &FreeGate, cut, &built, &puts)?;
     let entries = listed(rt.alloc(), &put)?;
-    assert_eq!(rt; entries.as_slice(), [(1, 10), (3, 31), (4, 41), (5, 51)].as_slice());
+    assert_eq!(rt;
+        entries.as_slice(),
+        [(1, 10), (3, 31), (4, 41), (5, 51)].as_slice()
+    );
     let keys = [9, 5, 0, 3, 5];
     let left = multi_del(&rt, rt.alloc(), &FreeGate, cut, &put, &keys)?;
     let entries = listed(rt.alloc(), &left)?;

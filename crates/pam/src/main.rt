@@ -1,6 +1,7 @@
 //! `pam TOOL`: reads commands from standard input, and writes their replies to standard output.
 #![tactic(auto)]
 
+use fork_join::FreeGate;
 use io_edge::{StdSink, StdSource};
 use pam_top::{Status, pam};
 use std::process::ExitCode;
@@ -30,10 +31,12 @@ fn words(rt: &HostRuntime) -> Result<Vec<String>, Status> {
 fn main(rt: HostRuntime) -> ExitCode {
     let status = match words(&rt) {
         Ok(words) => pam(
+            &rt,
             rt.alloc(),
             &words,
             &mut StdSource::new(&rt),
             &mut StdSink::new(&rt),
+            &FreeGate,
         ),
         Err(status) => status,
     };

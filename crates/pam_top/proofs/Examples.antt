@@ -5,6 +5,7 @@ use Rattle.clap.specs.Words.{Text}
 use Rattle.pam_top.specs.CommandLine.{matches_on, pam_command}
 use Rattle.pam_top.specs.Settings.{settings_of}
 use Rattle.pam_top.specs.declared.settings.Settings.{Settings}
+use Rattle.script.specs.declared.parsed.Tool.{Tool}
 use Rattle.script.specs.declared.parsed.Tool.TheVariants as tool
 
 abbrev unlawful_words : List (List Text)
@@ -12,7 +13,7 @@ unlawful_words =
     -- no words
     [] ∷
     -- a tool that is not built
-    (codes "sample" ∷ []) ∷
+    (codes "interval" ∷ []) ∷
     -- an unknown tool
     (codes "frob" ∷ []) ∷
     -- help
@@ -60,7 +61,7 @@ unlawful = refl
 
 abbrev lawful_words : List (List Text)
 lawful_words =
-    -- the one tool, with each default
+    -- a tool, with each default
     (codes "map" ∷ []) ∷
     -- a value in the same word
     (codes "--workers=8" ∷ codes "map" ∷ []) ∷
@@ -76,20 +77,23 @@ lawful_words =
     (codes "--workers" ∷ codes "1" ∷ codes "--grain" ∷ codes "1" ∷ codes "--seed" ∷ codes "0" ∷ codes "--size" ∷ codes "1" ∷ codes "map" ∷ []) ∷
     -- each greatest value
     (codes "--workers" ∷ codes "64" ∷ codes "--grain" ∷ codes "4294967296" ∷ codes "--seed" ∷ codes "18446744073709551615" ∷ codes "--size" ∷ codes "1000000" ∷ codes "map" ∷ []) ∷
+    -- the other tool
+    (codes "--seed" ∷ codes "0" ∷ codes "--size" ∷ codes "1" ∷ codes "sample" ∷ []) ∷
     []
 
-abbrev map_with : ℕ → ℕ → ℕ → ℕ → Option Settings
-map_with workers grain seed size = Some (record { tool = tool.Map; workers = workers; grain = grain; seed = seed; size = size })
+abbrev tool_with : Tool → ℕ → ℕ → ℕ → ℕ → Option Settings
+tool_with t workers grain seed size = Some (record { tool = t; workers = workers; grain = grain; seed = seed; size = size })
 
 lawful : map settings_of lawful_words ≡
-    map_with 4 1024 1 100000 ∷
-    map_with 8 1024 1 100000 ∷
-    map_with 8 1024 1 100000 ∷
-    map_with 8 1024 1 100000 ∷
-    map_with 4 1024 1 100000 ∷
-    map_with 4 1024 1 100000 ∷
-    map_with 1 1 0 1 ∷
-    map_with 64 4294967296 18446744073709551615 1000000 ∷
+    tool_with tool.Map 4 1024 1 100000 ∷
+    tool_with tool.Map 8 1024 1 100000 ∷
+    tool_with tool.Map 8 1024 1 100000 ∷
+    tool_with tool.Map 8 1024 1 100000 ∷
+    tool_with tool.Map 4 1024 1 100000 ∷
+    tool_with tool.Map 4 1024 1 100000 ∷
+    tool_with tool.Map 1 1 0 1 ∷
+    tool_with tool.Map 64 4294967296 18446744073709551615 1000000 ∷
+    tool_with tool.Sample 4 1024 0 1 ∷
     []
 unfolding matches_on pam_command clap_on_literals settings_of
 lawful = refl

@@ -10,7 +10,7 @@ use Rattle.map_model.specs.Parts.{slice}
 use Rattle.map_model.proofs.Folds.{fold-append}
 use Rattle.map_model.proofs.NatKeys.{is_ge-nat_cmp, is_le-nat_cmp}
 use Rattle.map_model.proofs.Ranges.{slice-append}
-use Rattle.pam_top.specs.Map.{range_totals}
+use Rattle.map_tool.specs.Values.{range_totals}
 
 abbrev total : List (ℕ × ℕ) → Totals
 total m = fold_of (λ (key val : ℕ). totals_base val) totals_unit totals_combine m

@@ -1,10 +1,16 @@
 -- What the program answers to its words and its input.
-use Rattle.std.specs.Prelude.{◌≡◌, ◌⊎◌, ◌<◌, ◌≤◌, [], ℕ, Bool, true, false, List, None, IsSome, IsSomeAnd, IsOkAnd, IsErrAnd, length}
+use Rattle.std.specs.Prelude.{◌≡◌, ◌⊎◌, ◌<◌, ◌≤◌, [], ℕ, Bool, true, false, List, None, IsSomeAnd, IsOkAnd, IsErrAnd, Ok, Result, length}
 use Rattle.script.specs.Commands.{commands_of}
 use Rattle.script.specs.Lines.{IsPrefix, error_line_of}
+use Rattle.script.specs.declared.fault.BadRecord.{BadRecord}
+use Rattle.script.specs.declared.parsed.Parsed.{Parsed}
+use Rattle.script.specs.declared.parsed.Parsed.TheVariants as parsed
 use Rattle.script.specs.declared.parsed.Tool.{Tool}
+use Rattle.script.specs.declared.parsed.Tool.TheVariants as tool
 use Rattle.pam_top.specs.Output.{IsOutput}
+use Rattle.pam_top.specs.Sample.{sample_commands}
 use Rattle.pam_top.specs.Settings.{settings_of}
+use Rattle.pam_top.specs.declared.settings.Settings.{Settings}
 use Rattle.pam_top.specs.declared.status.Status.{Status}
 use Rattle.pam_top.specs.declared.status.Status.TheVariants as status
 
@@ -12,25 +18,51 @@ use Rattle.pam_top.specs.declared.status.Status.TheVariants as status
 abbrev pub input_limit : ℕ
 input_limit = 67108864
 
+-- whether a tool reads its input
+abbrev pub reads_input : Tool → Bool
+reads_input tool.Map = true
+reads_input tool.Sample = false
+
+-- a whole input of a tool that is not too large: nothing, for a tool that reads none
+abbrev pub IsInput : Tool → List ℕ → Type 0
+IsInput tool.Map bytes = length bytes ≤ input_limit
+IsInput tool.Sample bytes = bytes ≡ []
+
+abbrev pub IsTooLarge : Tool → List ℕ → Type 0
+IsTooLarge tool.Map bytes = input_limit < length bytes
+IsTooLarge tool.Sample bytes = ⊥
+
+-- the commands that the settings and the input ask for
+abbrev pub asked_by : Tool → Settings → List ℕ → Result Parsed BadRecord
+asked_by tool.Map settings bytes = commands_of tool.Map bytes
+asked_by tool.Sample settings bytes = Ok (parsed.Map (sample_commands settings.seed settings.size))
+
 -- the answer of a tool to a whole input that is not too large
-abbrev pub ToolAnswer : Tool → List ℕ → Status → List ℕ → Type 0
-ToolAnswer tool bytes status.Ok text = IsOkAnd (commands_of tool bytes) (λ commands. IsOutput commands text)
-ToolAnswer tool bytes status.BadRecord text = IsErrAnd (commands_of tool bytes) (λ bad. text ≡ error_line_of bad)
-ToolAnswer tool bytes status.Usage text = ⊥
-ToolAnswer tool bytes status.TooLarge text = ⊥
-ToolAnswer tool bytes status.ReadFault text = ⊥
-ToolAnswer tool bytes status.WriteFault text = ⊥
-ToolAnswer tool bytes status.NoMemory text = ⊥
+abbrev pub ToolAnswer : Settings → List ℕ → Status → List ℕ → Type 0
+ToolAnswer settings bytes status.Ok text = IsOkAnd (asked_by settings.tool settings bytes) (λ commands. IsOutput commands text)
+ToolAnswer settings bytes status.BadRecord text = IsErrAnd (asked_by settings.tool settings bytes) (λ bad. text ≡ error_line_of bad)
+ToolAnswer settings bytes status.Usage text = ⊥
+ToolAnswer settings bytes status.TooLarge text = ⊥
+ToolAnswer settings bytes status.ReadFault text = ⊥
+ToolAnswer settings bytes status.WriteFault text = ⊥
+ToolAnswer settings bytes status.NoMemory text = ⊥
 
 -- the answer to the words and the whole input
 abbrev pub Answer : List (List ℕ) → List ℕ → Status → List ℕ → Type 0
-Answer words bytes status.Ok text = IsSomeAnd (settings_of words) (λ settings. (length bytes ≤ input_limit) × ToolAnswer settings.tool bytes status.Ok text)
+Answer words bytes status.Ok text = IsSomeAnd (settings_of words) (λ settings. IsInput settings.tool bytes × ToolAnswer settings bytes status.Ok text)
 Answer words bytes status.Usage text = (settings_of words ≡ None) × (text ≡ [])
-Answer words bytes status.BadRecord text = IsSomeAnd (settings_of words) (λ settings. (length bytes ≤ input_limit) × ToolAnswer settings.tool bytes status.BadRecord text)
-Answer words bytes status.TooLarge text = IsSome (settings_of words) × (input_limit < length bytes) × (text ≡ [])
+Answer words bytes status.BadRecord text = IsSomeAnd (settings_of words) (λ settings. IsInput settings.tool bytes × ToolAnswer settings bytes status.BadRecord text)
+Answer words bytes status.TooLarge text = IsSomeAnd (settings_of words) (λ settings. IsTooLarge settings.tool bytes) × (text ≡ [])
 Answer words bytes status.ReadFault text = ⊥
 Answer words bytes status.WriteFault text = ⊥
 Answer words bytes status.NoMemory text = ⊥
+
+-- the words ask for a tool that reads its input, and for one that reads none
+abbrev pub AsksToRead : List (List ℕ) → Type 0
+AsksToRead words = IsSomeAnd (settings_of words) (λ settings. reads_input settings.tool ≡ true)
+
+abbrev pub AsksNotToRead : List (List ℕ) → Type 0
+AsksNotToRead words = IsSomeAnd (settings_of words) (λ settings. reads_input settings.tool ≡ false)
 
 -- what was taken from the source and appended to the sink, at each status
 abbrev pub Outcome : List (List ℕ) → List ℕ → Status → List ℕ → Type 0
@@ -38,7 +70,7 @@ Outcome words bytes status.Ok text = Answer words bytes status.Ok text
 Outcome words bytes status.Usage text = Answer words bytes status.Usage text × (bytes ≡ [])
 Outcome words bytes status.BadRecord text = Answer words bytes status.BadRecord text
 Outcome words bytes status.TooLarge text = Answer words bytes status.TooLarge text
-Outcome words bytes status.ReadFault text = IsSome (settings_of words) × (length bytes ≤ input_limit) × (text ≡ [])
+Outcome words bytes status.ReadFault text = AsksToRead words × (length bytes ≤ input_limit) × (text ≡ [])
 Outcome words bytes status.WriteFault text = (made : List ℕ) × IsPrefix text made × (Answer words bytes status.Ok made ⊎ Answer words bytes status.BadRecord made)
 Outcome words bytes status.NoMemory text = text ≡ []
 

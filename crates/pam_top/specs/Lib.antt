@@ -1,7 +1,7 @@
 pub mod CommandLine
 pub mod Settings
 pub mod Replies
-pub mod Map
+pub mod Sample
 pub mod Output
 pub mod Answer
 pub mod InputRead

@@ -15,7 +15,10 @@ None >>= f = None
 
 -- the tool with this name
 abbrev pub tool_named : Text → Option Tool
-tool_named name = if bytes_eq name (codes "map") then Some tool.Map else None
+tool_named name =
+    if bytes_eq name (codes "map") then Some tool.Map
+    else if bytes_eq name (codes "sample") then Some tool.Sample
+    else None
 
 -- a number from `least` to `most`
 abbrev pub between : ℕ → ℕ → ℕ → Option ℕ

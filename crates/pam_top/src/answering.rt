@@ -1,11 +1,19 @@
 //! The answer to an input that was read whole.
 ghost use Rattle.std.specs.Prelude.{IfOk};
-ghost use Rattle.pam_top.specs.Answer.{ToolAnswer};
+ghost use Rattle.script.specs.Registers.{NamesRegisters};
+ghost use Rattle.script.specs.Results.{Gives};
+ghost use Rattle.pam_top.specs.Answer.{ToolAnswer, asked_by};
+ghost use Rattle.pam_top.specs.Settings.{IsInRange};
 
+use crate::sample::sample_commands;
+use crate::settings::Settings;
 use crate::{Status, run_plain};
 use aug_monoid::NoMemory;
-use script::{ScriptFault, Tool, commands, error_line};
+use fork_join::{Cut, Gate};
+use script::{Parsed, ScriptFault, Tool, commands, error_line};
 use std::alloc::Global;
+use std::marker::Sync;
+use std::thread::Threads;
 
 /// A text to write, and the status once it is written.
 #[derive(Drop)]
@@ -14,13 +22,33 @@ pub(crate) struct Reply {
     pub(crate) text: Vec<u8>,
 }
 
-/// The answer of a tool to its input.
-pub(crate) fn answer(alloc: Global, tool: Tool, bytes: &[u8]) -> Result<Reply, NoMemory>
-    ensures { IfOk result (λ reply. ToolAnswer tool bytes.now reply.status reply.text.items) }
+// The commands that the settings and the input ask for, or the first bad record.
+fn asked(alloc: Global, settings: &Settings, bytes: &[u8]) -> Result<Parsed, ScriptFault>
+    requires { IsInRange settings.now }
+    ensures exact { Gives result (asked_by settings.now.tool settings.now bytes.now) }
+    ensures registers { IfOk result NamesRegisters }
 {
-    match commands(alloc, tool, bytes) {
+    match settings.tool {
+        Tool::Map => commands(alloc, Tool::Map, bytes),
+        Tool::Sample => Ok(sample_commands(alloc, settings.seed, settings.size)?),
+    }
+}
+
+/// The answer of a tool to its input.
+pub(crate) fn answer<R: Threads + Sync, G: Gate>(
+    rt: &R,
+    alloc: Global,
+    gate: &G,
+    settings: &Settings,
+    bytes: &[u8],
+) -> Result<Reply, NoMemory>
+    requires { IsInRange settings.now }
+    ensures { IfOk result (λ reply. ToolAnswer settings.now bytes.now reply.status reply.text.items) }
+{
+    match asked(alloc, settings, bytes) {
         Ok(list) => {
-            let text = run_plain(alloc, &list)?;
+            let cut = Cut::new(settings.workers, settings.grain);
+            let text = run_plain(rt, alloc, gate, cut, &list)?;
             Ok(Reply {
                 status: Status::Ok,
                 text,

@@ -6,6 +6,7 @@ mod command_line;
 pub mod plain_map;
 mod reading;
 mod running;
+mod sample;
 mod settings;
 mod status;
 #[cfg(test)]

@@ -3,7 +3,7 @@ ghost use Rattle.std.specs.Prelude.{◌≡◌, ◌&&◌, [], nat_le, if◌then�
 ghost use Rattle.std.specs.Ordering.{nat_cmp};
 ghost use Rattle.map_model.specs.Entries.{lookup, set};
 ghost use Rattle.aug_monoid.specs.Totals.{totals_base, totals_combine};
-ghost use Rattle.pam_top.specs.Map.{range_totals};
+ghost use Rattle.map_tool.specs.Values.{range_totals};
 ghost use Rattle.pam_top.specs.Places.{IsAt, IsGapFor};
 
 use aug_monoid::{NoMemory, Totals};

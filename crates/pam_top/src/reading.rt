@@ -1,11 +1,13 @@
 //! Reads the whole input.
-ghost use Rattle.std.specs.Prelude.{◌≡◌, ◌≤◌, true, length, IfOk, OnOk, IfErr};
+ghost use Rattle.std.specs.Prelude.{◌≡◌, ◌≤◌, false, true, length, IfOk, OnErr, OnOk, IfErr};
 ghost use Rattle.std.specs.Io.KnownBytes.{IsAtEnd};
 ghost use Rattle.io_edge.specs.Edge.{Rose};
+ghost use Rattle.pam_top.specs.Answer.{IsInput, IsTooLarge, reads_input};
 ghost use Rattle.pam_top.specs.InputRead.{ReadsInput};
 ghost use Rattle.pam_top.specs.declared.reading.Stop.TheVariants as stop;
 
 use io_edge::{Failed, Source};
+use script::Tool;
 use std::alloc::{AllocError, Global};
 
 /// The most bytes of an input.
@@ -28,8 +30,8 @@ fn empty_chunk(alloc: Global) -> Result<Vec<u8>, AllocError>
     vec![in alloc; 0u8; CHUNK]
 }
 
-/// The whole input.
-pub(crate) fn read_input<S: Source>(alloc: Global, source: &mut S) -> Result<Vec<u8>, Stop>
+// The whole input.
+fn read_input<S: Source>(alloc: Global, source: &mut S) -> Result<Vec<u8>, Stop>
     ensures bytes { ReadsInput (S.left source.old) (S.left source.new) (λ v. v.items) result }
     ensures end { OnOk result ((S.ended source.new ≡ true) × IsAtEnd (S.left source.new)) }
     ensures later { S.faults source.old ≤ S.faults source.new }
@@ -54,4 +56,23 @@ pub(crate) fn read_input<S: Source>(alloc: Global, source: &mut S) -> Result<Vec
         }
     }
     Err(Stop::TooLarge)
+}
+
+/// The whole input of a tool, which is nothing for a tool that reads none.
+pub(crate) fn input_of<S: Source>(
+    alloc: Global,
+    tool: Tool,
+    source: &mut S,
+) -> Result<Vec<u8>, Stop>
+    ensures bytes { ReadsInput (S.left source.old) (S.left source.new) (λ v. v.items) result }
+    ensures whole { IfOk result (λ v. IsInput tool v.items) }
+    ensures stopped { OnErr result (reads_input tool ≡ true) }
+    ensures unread { reads_input tool ≡ false → source.new ≡ source.old }
+    ensures end { OnOk result (reads_input tool ≡ true → (S.ended source.new ≡ true) × IsAtEnd (S.left source.new)) }
+    ensures cause { IfErr result (λ e. e ≡ stop.Fault → Rose (S.faults source.old) (S.faults source.new)) }
+{
+    match tool {
+        Tool::Map => read_input(alloc, source),
+        Tool::Sample => Ok(Vec::new(alloc)),
+    }
 }

@@ -1,80 +1,61 @@
 //! Runs the commands of an input.
 ghost use Rattle.std.specs.Prelude.{◌≡◌, ◌++◌, ◌<◌, IfOk, OnOk, length};
 ghost use Rattle.std.specs.List.{AllByRecursion};
+ghost use Rattle.map_tool.specs.Effects.{map_after, map_reply};
+ghost use Rattle.map_tool.specs.Registers.{empty_registers, maps_of};
 ghost use Rattle.script.specs.Registers.{HasRegisters, NamesRegisters};
-ghost use Rattle.pam_top.specs.Map.{empty_registers, map_after, map_list, map_reply};
-ghost use Rattle.pam_top.specs.Output.{IsOutput};
+ghost use Rattle.pam_top.specs.Output.{IsOutput, map_list};
 ghost use Rattle.pam_top.specs.Replies.{replies};
 
-use crate::plain_map::SortedMap;
-use aug_monoid::NoMemory;
-use script::{MapCommand, Parsed, line};
+use aug_monoid::{NoMemory, Steps};
+use fork_join::{Cut, Gate};
+use map_tool::{Register, empty_registers, map_command};
+use script::{MapCommand, Parsed};
 use std::alloc::Global;
-
-/// How many registers there are.
-const REGISTERS: usize = 16;
-
-// Runs one command, and appends its reply.
-fn run_command(
-    registers: &mut [SortedMap],
-    command: &MapCommand,
-    out: &mut Vec<u8>,
-) -> Result<(), NoMemory>
-    requires count { length registers.old ≡ 16 }
-    requires low { HasRegisters command.now }
-    ensures { OnOk result ((registers.new ≡ map_after registers.old command.now) × (out.new.items ≡ out.old.items ++ map_reply registers.old command.now)) }
-{
-    match command {
-        MapCommand::Put { d, k, v, .. } => {
-            let map = &mut registers[*d as usize];
-            map.put(*k, *v)?;
-            line(out, "ok", &[map.size()])
-        }
-        MapCommand::Get { m, k, .. } => match registers[*m as usize].get(*k) {
-            Some(v) => line(out, "some", &[v]),
-            None => line(out, "none", &[]),
-        },
-        MapCommand::Sum { m, lo, hi, .. } => {
-            let totals = registers[*m as usize].aug_range(*lo, *hi);
-            line(out, "aug", &[totals.sum, totals.greatest])
-        }
-    }
-}
+use std::marker::{Brand, Sync};
+use std::sync::ledger::{Blank, Ledger};
+use std::thread::Threads;
 
 // Runs commands in order, and appends their replies.
-fn run_all(
-    registers: &mut [SortedMap],
+fn run_all<R: Threads + Sync, G: Gate, C: Ledger>(
+    rt: &R,
+    alloc: Global,
+    gate: &G,
+    cut: Cut,
+    registers: &mut [Register],
     commands: &[MapCommand],
-    out: &mut Vec<u8>,
-) -> Result<(), NoMemory>
+    steps: &mut Steps<C>,
+) -> Result<Vec<u8>, NoMemory>
     requires count { length registers.old ≡ 16 }
     requires low { AllByRecursion HasRegisters commands.now }
-    ensures { OnOk result (out.new.items ≡ out.old.items ++ replies map_reply map_after registers.old commands.now) }
+    ensures { IfOk result (λ text. text.items ≡ replies map_reply map_after (maps_of registers.old) commands.now) }
 {
+    let mut text = Vec::new(alloc);
     for command in commands {
-        run_command(registers, command, out)?;
+        let reply = map_command(rt, alloc, gate, cut, registers, command, steps)?;
+        text.extend_from_slice(&reply)?;
     }
-    Ok(())
+    Ok(text)
 }
 
-fn empty_maps(alloc: Global) -> Result<Vec<SortedMap>, NoMemory>
-    ensures { IfOk result (λ maps. maps.items ≡ empty_registers) }
-{
-    let mut maps = Vec::new(alloc);
-    for _ in 0..REGISTERS {
-        maps.push(SortedMap::empty(alloc))?;
-    }
-    Ok(maps)
-}
-
-fn run_map(alloc: Global, commands: &[MapCommand]) -> Result<Vec<u8>, NoMemory>
-    requires { AllByRecursion HasRegisters commands.now }
+// Runs commands on empty registers, and counts no steps.
+fn run_map<R: Threads + Sync, G: Gate, C: Ledger>(
+    rt: &R,
+    alloc: Global,
+    gate: &G,
+    cut: Cut,
+    commands: &[MapCommand],
+    blank: Blank,
+) -> Result<Vec<u8>, NoMemory>
+    requires low { AllByRecursion HasRegisters commands.now }
+    requires name { blank.name ≡ C.name }
+    requires parts { blank.parts ≡ C.parts }
+    requires some { 0 < blank.parts }
     ensures { IfOk result (λ text. text.items ≡ replies map_reply map_after empty_registers commands.now) }
 {
-    let mut registers = empty_maps(alloc)?;
-    let mut out = Vec::new(alloc);
-    run_all(&mut registers, commands, &mut out)?;
-    Ok(out)
+    let mut registers = empty_registers(alloc)?;
+    let mut steps = Steps::<C>::start(blank);
+    run_all(rt, alloc, gate, cut, &mut registers, commands, &mut steps)
 }
 
 fn map_list(commands: &Parsed) -> &[MapCommand]
@@ -85,10 +66,16 @@ fn map_list(commands: &Parsed) -> &[MapCommand]
     }
 }
 
-/// The replies to the commands of an input.
-pub fn run_plain(alloc: Global, commands: &Parsed) -> Result<Vec<u8>, NoMemory>
+/// The replies to the commands of an input, which depend neither on the runtime nor on the gate nor on the cut.
+pub fn run_plain<R: Threads + Sync, G: Gate>(
+    rt: &R,
+    alloc: Global,
+    gate: &G,
+    cut: Cut,
+    commands: &Parsed,
+) -> Result<Vec<u8>, NoMemory>
     requires { NamesRegisters commands.now }
     ensures { IfOk result (λ text. IsOutput commands.now text.items) }
 {
-    run_map(alloc, map_list(commands))
+    run_map::<R, G, Brand>(rt, alloc, gate, cut, map_list(commands), Blank::new(1))
 }

@@ -27,6 +27,7 @@ fn tool_of(name: &str) -> Option<Tool>
 {
     match name {
         "map" => Some(Tool::Map),
+        "sample" => Some(Tool::Sample),
         _ => None,
     }
 }

@@ -4,10 +4,13 @@ ghost use Rattle.std.specs.Prelude.{◌≤◌};
 use crate::plain_map::SortedMap;
 use crate::{Status, pam};
 use aug_monoid::Totals;
+use fork_join::FreeGate;
 use io_edge::{MemSink, MemSource};
 use std::alloc::Global;
+use std::marker::Sync;
 use std::process::Abort;
 use std::test::Fail;
+use std::thread::Threads;
 
 /// An input of the tool map, the status and the text that it must give.
 #[derive(Clone, Copy)]
@@ -38,7 +41,13 @@ fn words_of(alloc: Global, words: &[&str]) -> Result<Vec<String>, Fail> {
 }
 
 /// Runs the program, and answers its status and what it wrote.
-fn run(alloc: Global, words: &[&str], input: &[u8], edge: &Edge) -> Result<(Status, Vec<u8>), Fail>
+fn run(
+    rt: &(impl Threads + Sync),
+    alloc: Global,
+    words: &[&str],
+    input: &[u8],
+    edge: &Edge,
+) -> Result<(Status, Vec<u8>), Fail>
     requires { 1 ≤ edge.now.piece }
 {
     let list = words_of(alloc, words)?;
@@ -50,18 +59,21 @@ fn run(alloc: Global, words: &[&str], input: &[u8], edge: &Edge) -> Result<(Stat
         edge.piece,
         Vec::from_slice(alloc, edge.writes)?,
     )?;
-    let status = pam(alloc, &list, &mut source, &mut sink);
+    let status = pam(rt, alloc, &list, &mut source, &mut sink, &FreeGate);
     Ok((status, Vec::from_slice(alloc, sink.written())?))
 }
 
-fn check(rt: &impl Abort, alloc: Global, row: &Row) -> Result<(), Fail> {
+/// Runs a row in pieces of 1 byte on one worker, and in pieces of 7 bytes on many.
+fn check(rt: &(impl Abort + Threads + Sync), alloc: Global, row: &Row) -> Result<(), Fail> {
     for piece in [1, 7] {
         let edge = Edge {
             piece,
             reads: &[],
             writes: &[],
         };
-        let (status, text) = run(alloc, &["map"], row.input, &edge)?;
+        let workers = if piece == 1 { "1" } else { "64" };
+        let words = ["--workers", workers, "--grain", "1", "map"];
+        let (status, text) = run(rt, alloc, &words, row.input, &edge)?;
         assert_eq!(rt; status, row.status);
         assert_eq!(rt; text.as_slice(), row.text);
     }
@@ -69,7 +81,7 @@ fn check(rt: &impl Abort, alloc: Global, row: &Row) -> Result<(), Fail> {
 }
 
 #[test]
-fn replies_in_pieces_of_1_and_7_bytes(rt: HostRuntime) -> Result<(), Fail> {
+fn replies_to_an_input(rt: HostRuntime) -> Result<(), Fail> {
     let rows: [(&[u8], &[u8]); 9] = [
         // nothing, and lines without a record
         (b"", b""),
@@ -112,9 +124,78 @@ fn replies_in_pieces_of_1_and_7_bytes(rt: HostRuntime) -> Result<(), Fail> {
 }
 
 #[test]
+fn replies_to_each_verb(rt: HostRuntime) -> Result<(), Fail> {
+    let rows: [(&[u8], &[u8]); 7] = [
+        // puts and removals
+        (
+            b"put,0,5,10\nput,0,5,11\nget,0,5\ndel,0,5\ndel,0,5\nget,0,5\n",
+            b"ok,1\nok,1\nsome,11\nok,0\nok,0\nnone\n",
+        ),
+        // unions, an intersection, differences, and maps that overlap
+        (
+            b"build,0,1,10,3,30,5,50\nbuild,1,3,4,4,40\nunion,2,0,1,sum\nfold,2\nunion,3,0,1,first\nget,3,3\ninter,3,0,1,second\nget,3,3\ndiff,4,0,1\nlist,4,0,9\ncat,5,4,1\nsize,5\ndiff,5,0,0\n",
+            b"ok,3\nok,2\nok,4\naug,134,50\nok,4\nsome,30\nok,1\nsome,4\nok,2\nlist,2,1,10,5,50\noverlap\nsize,0\nok,0\n",
+        ),
+        // parts by keys and by values, places and neighbours
+        (
+            b"build,2,1,10,3,34,4,40,5,50\nbelow,6,2,4\nabove,8,2,4\ncat,9,6,8\nrank,2,4\nselect,2,3\nselect,2,4\nnext,2,3\nprev,2,1\natleast,10,2,40\nfilter,11,2,30,40\ncount,2,30,40\nmax,2,2,4\n",
+            b"ok,4\nok,2\nok,1\nok,3\nrank,2\nentry,5,50\nnone\nentry,4,40\nnone\nok,2\nok,2\ncount,2\nmax,40\n",
+        ),
+        // batches, a copy that stays, and a slice
+        (
+            b"build,0,1,10,3,30,5,50\ncopy,13,0\nmput,0,7,70,7,71\nget,0,7\nmdel,0,1,2\nslice,12,0,4,9\nclear,0\nsize,13\nsize,12\n",
+            b"ok,3\nok,3\nok,4\nsome,71\nok,3\nok,2\nok,0\nsize,3\nsize,2\n",
+        ),
+        // registers apart from one another
+        (
+            b"put,0,5,10\nput,15,6,7\ncopy,1,15\ndel,1,6\nfold,0\nlist,15,0,9\nsize,1\nclear,0\nget,0,5\n",
+            b"ok,1\nok,1\nok,1\nok,0\naug,10,10\nlist,1,6,7\nsize,0\nok,0\nnone\n",
+        ),
+        // a map behind another one
+        (
+            b"put,0,1,10\nput,1,2,20\ncat,2,0,1\ncat,3,1,0\ncat,4,0,9\nsize,2\n",
+            b"ok,1\nok,1\nok,2\noverlap\nok,1\nsize,2\n",
+        ),
+        // registers that are read and written by one command
+        (
+            b"build,0,1,10,2,20\nbuild,1,2,5,3,6\nunion,0,0,1,max\nfold,0\ninter,1,0,1,sum\nlist,1,0,9\ndiff,0,0,1\ncat,0,0,0\ncat,0,0,1\ncopy,0,0\nlist,0,0,9\nmdel,0,1,3\nabove,0,0,2\n",
+            b"ok,2\nok,2\nok,3\naug,36,20\nok,2\nlist,2,2,25,3,12\nok,1\noverlap\nok,3\nok,3\nlist,3,1,10,2,25,3,12\nok,1\nok,0\n",
+        ),
+    ];
+    for (input, text) in rows {
+        let row = Row {
+            input,
+            status: Status::Ok,
+            text,
+        };
+        check(&rt, rt.alloc(), &row)?;
+    }
+    Ok(())
+}
+
+#[test]
+fn the_sample_reads_nothing(rt: HostRuntime) -> Result<(), Fail> {
+    let edge = Edge {
+        piece: 7,
+        reads: &[1],
+        writes: &[],
+    };
+    let words = ["--seed", "0", "--size", "1", "sample"];
+    let (status, text) = run(&rt, rt.alloc(), &words, EXAMPLE, &edge)?;
+    assert_eq!(rt; status, Status::Ok);
+    assert_eq!(rt;
+        text.as_slice(),
+        b"ok,1\nok,1\nok,1\nok,1\nok,0\naug,527343,527343\naug,420705,420705\naug,0,0\n".as_slice()
+    );
+    Ok(())
+}
+
+#[test]
 fn the_line_of_the_first_bad_record(rt: HostRuntime) -> Result<(), Fail> {
-    let rows: [(&[u8], &[u8]); 9] = [
+    let rows: [(&[u8], &[u8]); 11] = [
         (b"put,0,5,10\nfrob\nput,16,1,1\n", b"error,2,verb\n"),
+        (b"cat,0,1,16\n", b"error,1,register\n"),
+        (b"union,0,1,2,least\n", b"error,1,how\n"),
         (b"Put,0,5,10\n", b"error,1,verb\n"),
         (b"put,0,1\n", b"error,1,fields\n"),
         (b"put,16,05,1,1\n", b"error,1,fields\n"),
@@ -149,14 +230,14 @@ fn words_that_are_lawful_and_words_that_are_not(rt: HostRuntime) -> Result<(), F
         &["--workers", "64", "--", "map"],
     ];
     for words in lawful {
-        let (status, text) = run(rt.alloc(), words, EXAMPLE, &edge)?;
+        let (status, text) = run(&rt, rt.alloc(), words, EXAMPLE, &edge)?;
         assert_eq!(rt; status, Status::Ok);
         assert_eq!(rt; text.as_slice(), REPLIES);
     }
     let unlawful: [&[&str]; 10] = [
         &[],
         &["frob"],
-        &["sample"],
+        &["interval"],
         &["map", "map"],
         &["--workers", "0", "map"],
         &["--workers", "65", "map"],
@@ -166,7 +247,7 @@ fn words_that_are_lawful_and_words_that_are_not(rt: HostRuntime) -> Result<(), F
         &["--help"],
     ];
     for words in unlawful {
-        let (status, text) = run(rt.alloc(), words, EXAMPLE, &edge)?;
+        let (status, text) = run(&rt, rt.alloc(), words, EXAMPLE, &edge)?;
         assert_eq!(rt; status, Status::Usage);
         assert_eq!(rt; text.as_slice(), b"".as_slice());
     }
@@ -182,7 +263,7 @@ fn each_read_that_may_fail(rt: HostRuntime) -> Result<(), Fail> {
             reads: &[call],
             writes: &[],
         };
-        let (status, text) = run(rt.alloc(), &["map"], EXAMPLE, &edge)?;
+        let (status, text) = run(&rt, rt.alloc(), &["map"], EXAMPLE, &edge)?;
         if call <= 5 {
             assert_eq!(rt; status, Status::ReadFault);
             assert_eq!(rt; text.as_slice(), b"".as_slice());
@@ -208,7 +289,7 @@ fn each_write_that_may_fail(rt: HostRuntime) -> Result<(), Fail> {
             reads: &[],
             writes: &[call],
         };
-        let (status, text) = run(rt.alloc(), &["map"], EXAMPLE, &edge)?;
+        let (status, text) = run(&rt, rt.alloc(), &["map"], EXAMPLE, &edge)?;
         assert_eq!(rt; status, end);
         assert_eq!(rt; text.as_slice(), taken);
     }
@@ -217,7 +298,7 @@ fn each_write_that_may_fail(rt: HostRuntime) -> Result<(), Fail> {
         reads: &[],
         writes: &[3],
     };
-    let (status, text) = run(rt.alloc(), &["map"], EXAMPLE, &bytewise)?;
+    let (status, text) = run(&rt, rt.alloc(), &["map"], EXAMPLE, &bytewise)?;
     assert_eq!(rt; status, Status::WriteFault);
     assert_eq!(rt; text.as_slice(), b"ok".as_slice());
     Ok(())

@@ -9,11 +9,11 @@ use Rattle.script.specs.declared.fault.BadRecord.{BadRecord}
 use Rattle.script.specs.declared.fault.Code.{Code}
 
 -- reading that goes on after these commands
-abbrev pub with_front : {C : Type 0} → List C → Result (List C) BadRecord → Result (List C) BadRecord
+abbrev pub with_front : {C E : Type 0} → List C → Result (List C) E → Result (List C) E
 with_front front (Ok rest) = Ok (front ++ rest)
 with_front front (Err bad) = Err bad
 
-pub front-none : {C : Type 0} (read : Result (List C) BadRecord) → read ≡ with_front [] read
+pub front-none : {C E : Type 0} (read : Result (List C) E) → read ≡ with_front [] read
 front-none (Ok rest) = refl
 front-none (Err bad) = refl
 
@@ -21,7 +21,7 @@ pub front-end : {C : Type 0} (reading : ℕ → Fields → Result C Code) (place
 unfolding commands_from
 front-end reading place front = ap Ok (append-nil front)
 
-after : {C : Type 0} (front : List C) (c : C) (read : Result (List C) BadRecord) → with_front front (read >>= (λ cs. Ok (c ∷ cs))) ≡ with_front (front ++ c ∷ []) read
+pub after : {C E : Type 0} (front : List C) (c : C) (read : Result (List C) E) → with_front front (read >>= (λ cs. Ok (c ∷ cs))) ≡ with_front (front ++ c ∷ []) read
 after front c (Ok rest) = ap Ok (sym (append_assoc front (c ∷ []) rest))
 after front c (Err bad) = refl
 

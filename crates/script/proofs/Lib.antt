@@ -4,4 +4,5 @@ pub mod FieldFacts
 pub mod NumberFacts
 pub mod CommandFacts
 pub mod LineFacts
+pub mod ListFacts
 pub mod RegisterFacts

@@ -1,17 +1,20 @@
 -- The commands that are read name registers from 0 to 15.
-use Rattle.std.proofs.Common.{◌+◌, ◌<◌, ◌==◌, ℕ, List, [], ◌∷◌, Option, Some, None, Result, Ok, Err, IfOk, inl, inr, length, nat_lt, codes}
+use Rattle.std.proofs.Common.{◌+◌, ◌<◌, ◌==◌, ◌%◌, ℕ, List, [], ◌∷◌, Option, Some, None, Result, Ok, Err, IfOk, Bool, cond, inl, inr, length, drop, nat_le, nat_lt, codes}
 use Rattle.std.specs.List.{AllByRecursion}
 use Rattle.std.proofs.lemmas.Bool.{cases_Bool, ltb-true}
+use Rattle.aug_monoid.specs.declared.pair64.Pair64.{Pair64}
 use Rattle.script.proofs.Chosen.{either_way}
 use Rattle.script.specs.Commands.{commands_from}
-use Rattle.script.specs.Fields.{field, fitting_register, number_in, or_code, register_in, register_number, register_number_number}
-use Rattle.script.specs.Map.{has_verb, map_command, makes₂, makes₃}
+use Rattle.script.specs.Fields as shape
+use Rattle.script.specs.Fields.{field, fitting_register, how_in, number_in, numbers_of, or_code, pairs_of, register_in}
+use Rattle.script.specs.Map.{entry_command, has_verb, joint_command, makes₁, makes₂, makes₃, makes₄, map_command, part_command, range_command}
 use Rattle.script.specs.Numbers.{number_of}
 use Rattle.script.specs.Records.{Fields}
 use Rattle.script.specs.Registers.{HasRegisters}
 use Rattle.script.specs.Results.{◌>>=◌, at_place}
 use Rattle.script.specs.declared.fault.Code.{Code}
 use Rattle.script.specs.declared.fault.Code.TheVariants as code
+use Rattle.script.specs.declared.map.How.{How}
 use Rattle.script.specs.declared.map.MapCommand.{MapCommand}
 
 -- what holds of each value that goes on holds of the end
@@ -23,43 +26,159 @@ then_any : {A B E : Type 0} (P : B → Type 0) (r : Result A E) (f : A → Resul
 then_any P (Ok x) f h = h x
 then_any P (Err e) f h = tt
 
-low_or_code : (o : Option ℕ) → IfOk (or_code code.Register (fitting_register o)) (λ n. n < 16)
+-- in a record that doesn't fit nothing is to show
+where_it_fits : {A : Type 0} (P : A → Type 0) (fits : Bool) (read : Result A Code) → IfOk read P → IfOk (cond fits read (Err code.Fields)) P
+where_it_fits P fits read h = either_way (λ r. IfOk r P) fits read (Err code.Fields) h tt
+
+abbrev IsLow : ℕ → Type 0
+IsLow n = n < 16
+
+low_or_code : (o : Option ℕ) → IfOk (or_code code.Register (fitting_register o)) IsLow
 low_or_code None = tt
 low_or_code (Some n) = elim (cases_Bool (nat_lt n 16)) [
   | inl under ↦ rw under (ltb-true n 16 under)
   | inr over ↦ rw over tt
 ]
 
-register_low : (r : Fields) (i : ℕ) → IfOk (register_in r i) (λ n. n < 16)
+register_low : (r : Fields) (i : ℕ) → IfOk (register_in r i) IsLow
 register_low r i = low_or_code (number_of (field r i))
 
--- the shapes of records begin with a register
-register_number_low : (r : Fields) → IfOk (register_number r) (λ f. f.0 < 16)
-register_number_low r = either_way (λ (read : Result (ℕ × ℕ) Code). IfOk read (λ f. f.0 < 16)) (length r == 3) _ _
-    (ok_then (λ n. n < 16) (λ (f : ℕ × ℕ). f.0 < 16) (register_in r 1) _ (register_low r 1) (λ a low. then_any (λ (f : ℕ × ℕ). f.0 < 16) (number_in r 2) _ (λ b. low))) tt
+then_low : {B : Type 0} (P : B → Type 0) (r : Fields) (i : ℕ) (f : ℕ → Result B Code) → ((n : ℕ) → n < 16 → IfOk (f n) P) → IfOk (register_in r i >>= f) P
+then_low P r i f h = ok_then IsLow P (register_in r i) f (register_low r i) h
 
-register_number_number_low : (r : Fields) → IfOk (register_number_number r) (λ f. f.0 < 16)
-register_number_number_low r = either_way (λ (read : Result (ℕ × ℕ × ℕ) Code). IfOk read (λ f. f.0 < 16)) (length r == 4) _ _
-    (ok_then (λ n. n < 16) (λ (f : ℕ × ℕ × ℕ). f.0 < 16) (register_in r 1) _ (register_low r 1)
-    (λ a low. then_any (λ (f : ℕ × ℕ × ℕ). f.0 < 16) (number_in r 2) _ (λ b. then_any (λ (f : ℕ × ℕ × ℕ). f.0 < 16) (number_in r 3) _ (λ c. low)))) tt
+-- the first so many of so many values are registers
+abbrev OneOf₂ : (B : Type 0) → ℕ × B → Type 0
+OneOf₂ B f = f.0 < 16
+
+abbrev OneOf₃ : ℕ × ℕ × ℕ → Type 0
+OneOf₃ f = f.0 < 16
+
+abbrev TwoOf₂ : ℕ × ℕ → Type 0
+TwoOf₂ f = (f.0 < 16) × (f.1 < 16)
+
+abbrev TwoOf₃ : ℕ × ℕ × ℕ → Type 0
+TwoOf₃ f = (f.0 < 16) × (f.1 < 16)
+
+abbrev TwoOf₄ : ℕ × ℕ × ℕ × ℕ → Type 0
+TwoOf₄ f = (f.0 < 16) × (f.1 < 16)
+
+abbrev ThreeOf₃ : ℕ × ℕ × ℕ → Type 0
+ThreeOf₃ f = (f.0 < 16) × (f.1 < 16) × (f.2 < 16)
+
+abbrev ThreeOf₄ : ℕ × ℕ × ℕ × How → Type 0
+ThreeOf₄ f = (f.0 < 16) × (f.1 < 16) × (f.2 < 16)
 
 abbrev Lawful : Result MapCommand Code → Type 0
 Lawful read = IfOk read HasRegisters
 
-low₂ : (make : ℕ → ℕ → MapCommand) (r : Fields) → ((a b : ℕ) → a < 16 → HasRegisters (make a b)) → Lawful (makes₂ make (register_number r))
-low₂ make r h = ok_then (λ (f : ℕ × ℕ). f.0 < 16) HasRegisters (register_number r) _ (register_number_low r) (λ f low. h f.0 f.1 low)
+-- each shape of records begins with its registers
+register_lows : (r : Fields) → IfOk (shape.register r) IsLow
+register_lows r = where_it_fits IsLow (length r == 2) _ (register_low r 1)
 
-low₃ : (make : ℕ → ℕ → ℕ → MapCommand) (r : Fields) → ((a b c : ℕ) → a < 16 → HasRegisters (make a b c)) → Lawful (makes₃ make (register_number_number r))
-low₃ make r h = ok_then (λ (f : ℕ × ℕ × ℕ). f.0 < 16) HasRegisters (register_number_number r) _ (register_number_number_low r) (λ f low. h f.0 f.1 f.2 low)
+register_number_lows : (r : Fields) → IfOk (shape.register_number r) (OneOf₂ ℕ)
+register_number_lows r = where_it_fits (OneOf₂ ℕ) (length r == 3) _ (
+    then_low (OneOf₂ ℕ) r 1 _ (λ a low. then_any (OneOf₂ ℕ) (number_in r 2) _ (λ b. low)))
+
+register_number_number_lows : (r : Fields) → IfOk (shape.register_number_number r) OneOf₃
+register_number_number_lows r = where_it_fits OneOf₃ (length r == 4) _ (
+    then_low OneOf₃ r 1 _ (λ a low. then_any OneOf₃ (number_in r 2) _ (λ b. then_any OneOf₃ (number_in r 3) _ (λ c. low))))
+
+register_numbers_lows : (r : Fields) → IfOk (shape.register_numbers r) (OneOf₂ (List ℕ))
+register_numbers_lows r = where_it_fits (OneOf₂ (List ℕ)) (nat_le 3 (length r)) _ (
+    then_low (OneOf₂ (List ℕ)) r 1 _ (λ a low. then_any (OneOf₂ (List ℕ)) (numbers_of (drop 2 r)) _ (λ b. low)))
+
+register_pairs_lows : (r : Fields) → IfOk (shape.register_pairs r) (OneOf₂ (List Pair64))
+register_pairs_lows r = where_it_fits (OneOf₂ (List Pair64)) (nat_le 2 (length r)) _ (where_it_fits (OneOf₂ (List Pair64)) (length r % 2 == 0) _ (
+    then_low (OneOf₂ (List Pair64)) r 1 _ (λ a low. then_any (OneOf₂ (List Pair64)) (pairs_of (drop 2 r)) _ (λ b. low))))
+
+register_some_pairs_lows : (r : Fields) → IfOk (shape.register_some_pairs r) (OneOf₂ (List Pair64))
+register_some_pairs_lows r = where_it_fits (OneOf₂ (List Pair64)) (nat_le 4 (length r)) _ (register_pairs_lows r)
+
+two_registers_lows : (r : Fields) → IfOk (shape.two_registers r) TwoOf₂
+two_registers_lows r = where_it_fits TwoOf₂ (length r == 3) _ (
+    then_low TwoOf₂ r 1 _ (λ a low. then_low TwoOf₂ r 2 _ (λ b second. (low, second))))
+
+two_registers_number_lows : (r : Fields) → IfOk (shape.two_registers_number r) TwoOf₃
+two_registers_number_lows r = where_it_fits TwoOf₃ (length r == 4) _ (
+    then_low TwoOf₃ r 1 _ (λ a low. then_low TwoOf₃ r 2 _ (λ b second. then_any TwoOf₃ (number_in r 3) _ (λ c. (low, second)))))
+
+two_registers_number_number_lows : (r : Fields) → IfOk (shape.two_registers_number_number r) TwoOf₄
+two_registers_number_number_lows r = where_it_fits TwoOf₄ (length r == 5) _ (
+    then_low TwoOf₄ r 1 _ (λ a low. then_low TwoOf₄ r 2 _ (λ b second. then_any TwoOf₄ (number_in r 3) _ (λ c. then_any TwoOf₄ (number_in r 4) _ (λ d. (low, second))))))
+
+three_registers_lows : (r : Fields) → IfOk (shape.three_registers r) ThreeOf₃
+three_registers_lows r = where_it_fits ThreeOf₃ (length r == 4) _ (
+    then_low ThreeOf₃ r 1 _ (λ a low. then_low ThreeOf₃ r 2 _ (λ b second. then_low ThreeOf₃ r 3 _ (λ c third. (low, second, third)))))
+
+three_registers_how_lows : (r : Fields) → IfOk (shape.three_registers_how r) ThreeOf₄
+three_registers_how_lows r = where_it_fits ThreeOf₄ (length r == 5) _ (
+    then_low ThreeOf₄ r 1 _ (λ a low. then_low ThreeOf₄ r 2 _ (λ b second. then_low ThreeOf₄ r 3 _ (λ c third. then_any ThreeOf₄ (how_in r 4) _ (λ d. (low, second, third))))))
+
+-- so a command that is made of them has its registers
+made₁ : {A : Type 0} (Q : A → Type 0) (make : A → MapCommand) (read : Result A Code) → IfOk read Q → ((a : A) → Q a → HasRegisters (make a)) → Lawful (makes₁ make read)
+made₁ Q make read q h = ok_then Q HasRegisters read _ q h
+
+made₂ : {A B : Type 0} (Q : A × B → Type 0) (make : A → B → MapCommand) (read : Result (A × B) Code) → IfOk read Q → ((f : A × B) → Q f → HasRegisters (make f.0 f.1)) → Lawful (makes₂ make read)
+made₂ Q make read q h = ok_then Q HasRegisters read _ q h
+
+made₃ : {A B C : Type 0} (Q : A × B × C → Type 0) (make : A → B → C → MapCommand) (read : Result (A × B × C) Code) → IfOk read Q → ((f : A × B × C) → Q f → HasRegisters (make f.0 f.1 f.2)) → Lawful (makes₃ make read)
+made₃ Q make read q h = ok_then Q HasRegisters read _ q h
+
+made₄ : {A B C D : Type 0} (Q : A × B × C × D → Type 0) (make : A → B → C → D → MapCommand) (read : Result (A × B × C × D) Code) → IfOk read Q → ((f : A × B × C × D) → Q f → HasRegisters (make f.0 f.1 f.2 f.3)) → Lawful (makes₄ make read)
+made₄ Q make read q h = ok_then Q HasRegisters read _ q h
 
 -- a row for each verb
+part_lawful : (place : ℕ) (r : Fields) → Lawful (part_command place r)
+unfolding part_command
+part_lawful place r =
+    either_way Lawful (has_verb r (codes "below")) _ _ (made₃ TwoOf₃ _ _ (two_registers_number_lows r) (λ f low. low))
+    (either_way Lawful (has_verb r (codes "above")) _ _ (made₃ TwoOf₃ _ _ (two_registers_number_lows r) (λ f low. low))
+    (either_way Lawful (has_verb r (codes "slice")) _ _ (made₄ TwoOf₄ _ _ (two_registers_number_number_lows r) (λ f low. low))
+    (either_way Lawful (has_verb r (codes "atleast")) _ _ (made₃ TwoOf₃ _ _ (two_registers_number_lows r) (λ f low. low))
+    (either_way Lawful (has_verb r (codes "filter")) _ _ (made₄ TwoOf₄ _ _ (two_registers_number_number_lows r) (λ f low. low))
+    tt))))
+
+joint_lawful : (place : ℕ) (r : Fields) → Lawful (joint_command place r)
+unfolding joint_command
+joint_lawful place r =
+    either_way Lawful (has_verb r (codes "copy")) _ _ (made₂ TwoOf₂ _ _ (two_registers_lows r) (λ f low. low))
+    (either_way Lawful (has_verb r (codes "union")) _ _ (made₄ ThreeOf₄ _ _ (three_registers_how_lows r) (λ f low. low))
+    (either_way Lawful (has_verb r (codes "inter")) _ _ (made₄ ThreeOf₄ _ _ (three_registers_how_lows r) (λ f low. low))
+    (either_way Lawful (has_verb r (codes "diff")) _ _ (made₃ ThreeOf₃ _ _ (three_registers_lows r) (λ f low. low))
+    (either_way Lawful (has_verb r (codes "cat")) _ _ (made₃ ThreeOf₃ _ _ (three_registers_lows r) (λ f low. low))
+    (part_lawful place r)))))
+
+range_lawful : (place : ℕ) (r : Fields) → Lawful (range_command place r)
+unfolding range_command
+range_lawful place r =
+    either_way Lawful (has_verb r (codes "sum")) _ _ (made₃ OneOf₃ _ _ (register_number_number_lows r) (λ f low. low))
+    (either_way Lawful (has_verb r (codes "max")) _ _ (made₃ OneOf₃ _ _ (register_number_number_lows r) (λ f low. low))
+    (either_way Lawful (has_verb r (codes "list")) _ _ (made₃ OneOf₃ _ _ (register_number_number_lows r) (λ f low. low))
+    (either_way Lawful (has_verb r (codes "count")) _ _ (made₃ OneOf₃ _ _ (register_number_number_lows r) (λ f low. low))
+    (joint_lawful place r))))
+
+entry_lawful : (place : ℕ) (r : Fields) → Lawful (entry_command place r)
+unfolding entry_command
+entry_lawful place r =
+    either_way Lawful (has_verb r (codes "get")) _ _ (made₂ (OneOf₂ ℕ) _ _ (register_number_lows r) (λ f low. low))
+    (either_way Lawful (has_verb r (codes "size")) _ _ (made₁ IsLow _ _ (register_lows r) (λ f low. low))
+    (either_way Lawful (has_verb r (codes "fold")) _ _ (made₁ IsLow _ _ (register_lows r) (λ f low. low))
+    (either_way Lawful (has_verb r (codes "rank")) _ _ (made₂ (OneOf₂ ℕ) _ _ (register_number_lows r) (λ f low. low))
+    (either_way Lawful (has_verb r (codes "select")) _ _ (made₂ (OneOf₂ ℕ) _ _ (register_number_lows r) (λ f low. low))
+    (either_way Lawful (has_verb r (codes "next")) _ _ (made₂ (OneOf₂ ℕ) _ _ (register_number_lows r) (λ f low. low))
+    (either_way Lawful (has_verb r (codes "prev")) _ _ (made₂ (OneOf₂ ℕ) _ _ (register_number_lows r) (λ f low. low))
+    (range_lawful place r)))))))
+
 lawful : (place : ℕ) (r : Fields) → Lawful (map_command place r)
 unfolding map_command
 lawful place r =
-    either_way Lawful (has_verb r (codes "put")) _ _ (low₃ _ r (λ d k v low. low))
-    (either_way Lawful (has_verb r (codes "get")) _ _ (low₂ _ r (λ m k low. low))
-    (either_way Lawful (has_verb r (codes "sum")) _ _ (low₃ _ r (λ m lo hi low. low))
-    tt))
+    either_way Lawful (has_verb r (codes "put")) _ _ (made₃ OneOf₃ _ _ (register_number_number_lows r) (λ f low. low))
+    (either_way Lawful (has_verb r (codes "del")) _ _ (made₂ (OneOf₂ ℕ) _ _ (register_number_lows r) (λ f low. low))
+    (either_way Lawful (has_verb r (codes "clear")) _ _ (made₁ IsLow _ _ (register_lows r) (λ f low. low))
+    (either_way Lawful (has_verb r (codes "build")) _ _ (made₂ (OneOf₂ (List Pair64)) _ _ (register_pairs_lows r) (λ f low. low))
+    (either_way Lawful (has_verb r (codes "mput")) _ _ (made₂ (OneOf₂ (List Pair64)) _ _ (register_some_pairs_lows r) (λ f low. low))
+    (either_way Lawful (has_verb r (codes "mdel")) _ _ (made₂ (OneOf₂ (List ℕ)) _ _ (register_numbers_lows r) (λ f low. low))
+    (entry_lawful place r))))))
 
 placed : (place : ℕ) (read : Result MapCommand Code) → Lawful read → IfOk (at_place place read) HasRegisters
 placed place (Ok c) h = h

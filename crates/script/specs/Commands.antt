@@ -23,3 +23,4 @@ abbrev pub commands_of : Tool → List ℕ → Result Parsed BadRecord
 commands_of tool.Map bytes = do
   commands ← commands_from map_command 1 (records_of bytes)
   Ok (parsed.Map commands)
+commands_of tool.Sample bytes = Ok (parsed.Map [])

@@ -20,6 +20,7 @@ code_word code.Verb = codes "verb"
 code_word code.Fields = codes "fields"
 code_word code.Number = codes "number"
 code_word code.Register = codes "register"
+code_word code.How = codes "how"
 
 -- the one line for a bad record
 abbrev pub error_line_of : BadRecord → List ℕ

@@ -1,7 +1,8 @@
 -- The records of the tool map.
 use Rattle.std.specs.Prelude.{ℕ, List, Result, Ok, Err, Bool, codes, if◌then◌else◌}
 use Rattle.std.specs.Str.{bytes_eq}
-use Rattle.script.specs.Fields.{field, register_number, register_number_number}
+use Rattle.script.specs.Fields as shape
+use Rattle.script.specs.Fields.{field}
 use Rattle.script.specs.Records.{Fields}
 use Rattle.script.specs.Results.{◌>>=◌}
 use Rattle.script.specs.declared.fault.Code.{Code}
@@ -13,17 +14,67 @@ use Rattle.script.specs.declared.map.MapCommand.TheVariants as command
 abbrev pub has_verb : Fields → List ℕ → Bool
 has_verb r word = bytes_eq (field r 0) word
 
--- the command that two or three fields make
-abbrev pub makes₂ : (ℕ → ℕ → MapCommand) → Result (ℕ × ℕ) Code → Result MapCommand Code
+-- the command that one to four fields make
+abbrev pub makes₁ : {A : Type 0} → (A → MapCommand) → Result A Code → Result MapCommand Code
+makes₁ make read = read >>= λ a. Ok (make a)
+
+abbrev pub makes₂ : {A B : Type 0} → (A → B → MapCommand) → Result (A × B) Code → Result MapCommand Code
 makes₂ make read = read >>= λ f. Ok (make f.0 f.1)
 
-abbrev pub makes₃ : (ℕ → ℕ → ℕ → MapCommand) → Result (ℕ × ℕ × ℕ) Code → Result MapCommand Code
+abbrev pub makes₃ : {A B C : Type 0} → (A → B → C → MapCommand) → Result (A × B × C) Code → Result MapCommand Code
 makes₃ make read = read >>= λ f. Ok (make f.0 f.1 f.2)
 
--- what the record with this number says: a row for each verb, with its fields
+abbrev pub makes₄ : {A B C D : Type 0} → (A → B → C → D → MapCommand) → Result (A × B × C × D) Code → Result MapCommand Code
+makes₄ make read = read >>= λ f. Ok (make f.0 f.1 f.2 f.3)
+
+-- the verbs that make a register a part of another one
+unfoldable pub part_command : ℕ → Fields → Result MapCommand Code
+part_command place r =
+    if has_verb r (codes "below") then makes₃ (command.Below place) (shape.two_registers_number r)
+    else if has_verb r (codes "above") then makes₃ (command.Above place) (shape.two_registers_number r)
+    else if has_verb r (codes "slice") then makes₄ (command.Slice place) (shape.two_registers_number_number r)
+    else if has_verb r (codes "atleast") then makes₃ (command.Atleast place) (shape.two_registers_number r)
+    else if has_verb r (codes "filter") then makes₄ (command.Filter place) (shape.two_registers_number_number r)
+    else Err code.Verb
+
+-- those that make it a copy, or of two registers
+unfoldable pub joint_command : ℕ → Fields → Result MapCommand Code
+joint_command place r =
+    if has_verb r (codes "copy") then makes₂ (command.Copy place) (shape.two_registers r)
+    else if has_verb r (codes "union") then makes₄ (command.Union place) (shape.three_registers_how r)
+    else if has_verb r (codes "inter") then makes₄ (command.Inter place) (shape.three_registers_how r)
+    else if has_verb r (codes "diff") then makes₃ (command.Diff place) (shape.three_registers r)
+    else if has_verb r (codes "cat") then makes₃ (command.Cat place) (shape.three_registers r)
+    else part_command place r
+
+-- those that ask of a range of keys or values
+unfoldable pub range_command : ℕ → Fields → Result MapCommand Code
+range_command place r =
+    if has_verb r (codes "sum") then makes₃ (command.Sum place) (shape.register_number_number r)
+    else if has_verb r (codes "max") then makes₃ (command.Max place) (shape.register_number_number r)
+    else if has_verb r (codes "list") then makes₃ (command.List place) (shape.register_number_number r)
+    else if has_verb r (codes "count") then makes₃ (command.Count place) (shape.register_number_number r)
+    else joint_command place r
+
+-- those that ask of one entry or of the whole map
+unfoldable pub entry_command : ℕ → Fields → Result MapCommand Code
+entry_command place r =
+    if has_verb r (codes "get") then makes₂ (command.Get place) (shape.register_number r)
+    else if has_verb r (codes "size") then makes₁ (command.Size place) (shape.register r)
+    else if has_verb r (codes "fold") then makes₁ (command.Fold place) (shape.register r)
+    else if has_verb r (codes "rank") then makes₂ (command.Rank place) (shape.register_number r)
+    else if has_verb r (codes "select") then makes₂ (command.Select place) (shape.register_number r)
+    else if has_verb r (codes "next") then makes₂ (command.Next place) (shape.register_number r)
+    else if has_verb r (codes "prev") then makes₂ (command.Prev place) (shape.register_number r)
+    else range_command place r
+
+-- what the record with this number says: a row for each verb, with its fields, first those that change one register
 unfoldable pub map_command : ℕ → Fields → Result MapCommand Code
 map_command place r =
-    if has_verb r (codes "put") then makes₃ (command.Put place) (register_number_number r)
-    else if has_verb r (codes "get") then makes₂ (command.Get place) (register_number r)
-    else if has_verb r (codes "sum") then makes₃ (command.Sum place) (register_number_number r)
-    else Err code.Verb
+    if has_verb r (codes "put") then makes₃ (command.Put place) (shape.register_number_number r)
+    else if has_verb r (codes "del") then makes₂ (command.Del place) (shape.register_number r)
+    else if has_verb r (codes "clear") then makes₁ (command.Clear place) (shape.register r)
+    else if has_verb r (codes "build") then makes₂ (command.Build place) (shape.register_pairs r)
+    else if has_verb r (codes "mput") then makes₂ (command.Mput place) (shape.register_some_pairs r)
+    else if has_verb r (codes "mdel") then makes₂ (command.Mdel place) (shape.register_numbers r)
+    else entry_command place r

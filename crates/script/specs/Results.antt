@@ -2,6 +2,8 @@
 use Rattle.std.specs.Prelude.{◌≡◌, ℕ, Result, Ok, Err}
 use Rattle.script.specs.declared.fault.BadRecord.{BadRecord}
 use Rattle.script.specs.declared.fault.Code.{Code}
+use Rattle.script.specs.declared.fault.RecordFault.{RecordFault}
+use Rattle.script.specs.declared.fault.RecordFault.TheVariants as record_fault
 use Rattle.script.specs.declared.fault.ScriptFault.{ScriptFault}
 use Rattle.script.specs.declared.fault.ScriptFault.TheVariants as fault
 
@@ -23,3 +25,12 @@ Faults (fault.Bad bad) read = read ≡ Err bad
 abbrev pub Gives : {A : Type 0} → Result A ScriptFault → Result A BadRecord → Type 0
 Gives (Ok x) read = read ≡ Ok x
 Gives (Err e) read = Faults e read
+
+-- the same of one record, whose place is not named yet
+abbrev pub CodeFaults : {A : Type 0} → RecordFault → Result A Code → Type 0
+CodeFaults record_fault.NoMemory read = Unit {0}
+CodeFaults (record_fault.Bad c) read = read ≡ Err c
+
+abbrev pub GivesCode : {A : Type 0} → Result A RecordFault → Result A Code → Type 0
+GivesCode (Ok x) read = read ≡ Ok x
+GivesCode (Err e) read = CodeFaults e read

@@ -3,10 +3,11 @@ ghost use Rattle.std.specs.Prelude.{◌≡◌, ℕ, List, Result};
 ghost use Rattle.csv.specs.Records.{fields_of};
 ghost use Rattle.script.specs.Commands.{commands_from};
 ghost use Rattle.script.specs.Records.{records_of};
-ghost use Rattle.script.specs.Results.{Gives, at_place};
+ghost use Rattle.script.specs.Results.{Gives, GivesCode, at_place};
 
+use crate::fault::RecordFault;
 use crate::records::Records;
-use crate::{BadRecord, Code, Items, ScriptFault};
+use crate::{BadRecord, Items, ScriptFault};
 use csv::ByteRecord;
 use std::alloc::Global;
 
@@ -19,15 +20,19 @@ pub(crate) trait Command: Sized + Drop {
     ghost reading: { ℕ → List (List ℕ) → Result Self Code };
 
     /// The command of the record with this number.
-    fn read(place: u64, row: &ByteRecord) -> Result<Self, Code>
-        ensures { result ≡ reading place (fields_of row.now) };
+    fn read(alloc: Global, place: u64, row: &ByteRecord) -> Result<Self, RecordFault>
+        ensures { GivesCode result (reading place (fields_of row.now)) };
 }
 
 // A record's command, with the record's number at a fault.
-fn read_at<C: Command>(place: u64, row: &ByteRecord) -> Result<C, ScriptFault>
+fn read_at<C: Command>(alloc: Global, place: u64, row: &ByteRecord) -> Result<C, ScriptFault>
     ensures { Gives result (at_place place (C.reading place (fields_of row.now))) }
 {
-    C::read(place, row).map_err(|code| ScriptFault::Bad(BadRecord { place, code }))
+    match C::read(alloc, place, row) {
+        Ok(command) => Ok(command),
+        Err(RecordFault::Bad(code)) => Err(ScriptFault::Bad(BadRecord { place, code })),
+        Err(RecordFault::NoMemory) => Err(ScriptFault::NoMemory),
+    }
 }
 
 /// The commands of a text's records, or the first bad record.
@@ -40,7 +45,7 @@ pub(crate) fn read_all<C: Command>(alloc: Global, text: &[u8]) -> Result<Items<C
         if !records.advance()? {
             return Ok(Items::new(commands));
         }
-        commands.push(read_at(place, records.current())?)?;
+        commands.push(read_at(alloc, place, records.current())?)?;
     }
     Err(ScriptFault::NoMemory)
 }

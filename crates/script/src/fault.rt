@@ -1,5 +1,6 @@
 //! What may be wrong with a record, and the fault of a whole input.
 ghost use Rattle.std.specs.Prelude.{◌≡◌};
+ghost use Rattle.script.specs.declared.fault.RecordFault.TheVariants as record_fault;
 ghost use Rattle.script.specs.declared.fault.ScriptFault.TheVariants as fault;
 
 use aug_monoid::NoMemory;
@@ -18,6 +19,8 @@ pub enum Code {
     Number,
     /// A field is no number from 0 to 15.
     Register,
+    /// A field is no word for how two values meet.
+    How,
 }
 
 /// The first bad record, by its number from 1.
@@ -25,6 +28,29 @@ pub enum Code {
 pub struct BadRecord {
     pub place: u64,
     pub code: Code,
+}
+
+/// Why one record gave no command.
+#[derive(Debug, Drop, PartialEq, Eq)]
+pub(crate) enum RecordFault {
+    Bad(Code),
+    NoMemory,
+}
+
+impl From<Code> for RecordFault {
+    ghost from_gives = { λ c e. e ≡ record_fault.Bad c };
+
+    fn from(code: Code) -> Self {
+        RecordFault::Bad(code)
+    }
+}
+
+impl<T: Drop> From<AllocFailed<T>> for RecordFault {
+    ghost from_gives = { λ _ e. e ≡ record_fault.NoMemory };
+
+    fn from(_: AllocFailed<T>) -> Self {
+        RecordFault::NoMemory
+    }
 }
 
 /// Why an input gave no commands.

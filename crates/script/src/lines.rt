@@ -14,6 +14,7 @@ fn code_word(code: Code) -> &'static str
         Code::Fields => "fields",
         Code::Number => "number",
         Code::Register => "register",
+        Code::How => "how",
     }
 }
 
@@ -37,7 +38,7 @@ fn push_number(out: &mut Vec<u8>, number: u64) -> Result<(), NoMemory>
 fn push_part(out: &mut Vec<u8>, number: u64) -> Result<(), NoMemory>
     ensures { MatchResult result (λ _. out.new.items ≡ out.old.items ++ comma ∷ decimal number) (λ _. IsPrefix out.old.items out.new.items) }
 {
-    push_bytes(out, b",")?;
+    out.push(b',')?;
     push_number(out, number)
 }
 

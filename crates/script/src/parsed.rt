@@ -13,6 +13,8 @@ use std::alloc::Global;
 pub enum Tool {
     /// Ordered maps in sixteen registers.
     Map,
+    /// Commands of the tool map that are made from a seed and a size. It reads no records.
+    Sample,
 }
 
 /// The commands of an input.
@@ -22,13 +24,14 @@ pub enum Parsed {
 }
 
 /// The commands of a tool's input, or its first bad record. Records are those of `csv` with its
-/// default delimiter, quote and line ends, without a header row; an empty line is none.
-/// Time is linear in the input.
+/// default delimiter, quote and line ends, without a header row; an empty line is none. The tool
+/// sample reads none, and so its input has no commands. Time is linear in the input.
 pub fn commands(alloc: Global, tool: Tool, bytes: &[u8]) -> Result<Parsed, ScriptFault>
     ensures exact { Gives result (commands_of tool bytes.now) }
     ensures registers { IfOk result NamesRegisters }
 {
     match tool {
         Tool::Map => Ok(Parsed::Map(read_all(alloc, bytes)?)),
+        Tool::Sample => Ok(Parsed::Map(Items::new(Vec::new(alloc)))),
     }
 }

@@ -5,9 +5,10 @@ use Rattle.diff_leaf.specs.LebLaws.{leb_small, leb_large}
 use Rattle.diff_leaf.proofs.number.push_number.Goals as goal
 
 pub loop-rest-preserved : goal.loop-rest-preserved
-loop-rest-preserved c =
-    (rw (c.in_ok-push_byte.ensures.appended, append_assoc) (ap (λ (t : List ℕ). c.loop-rest.out.items ++ t) (sym (leb_large c.loop-rest.rest c.loop-rest-test.true)) ∙ c.loop-rest.invariant.0),
-    front_then _ _ _ _ c.loop-rest.invariant.1 c.in_ok-push_byte.ensures.appended)
+loop-rest-preserved c = (
+  rw (c.in_ok-push_byte.ensures.appended, append_assoc) (ap (λ (t : List ℕ). c.loop-rest.out.items ++ t) (sym (leb_large c.loop-rest.rest c.loop-rest-test.true)) ∙ c.loop-rest.invariant.0),
+  front_then _ _ _ _ c.loop-rest.invariant.1 c.in_ok-push_byte.ensures.appended,
+)
 
 pub returns-clause-appended : goal.returns-clause-appended
 returns-clause-appended c =

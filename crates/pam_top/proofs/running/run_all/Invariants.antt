@@ -1,12 +1,14 @@
-use Rattle.std.proofs.Common.{◌≡◌, ◌++◌, drop}
-use Rattle.pam_top.specs.Replies.{replies}
+use Rattle.std.proofs.Common.{◌≡◌, ◌++◌, drop, length}
 use Rattle.std.specs.List.{AllByRecursion}
+use Rattle.map_tool.specs.Effects.{map_after, map_reply}
+use Rattle.map_tool.specs.Registers.{maps_of}
 use Rattle.script.specs.Registers.{HasRegisters}
-use Rattle.pam_top.specs.Map.{map_after, map_reply}
+use Rattle.pam_top.specs.Replies.{replies}
 use Rattle.pam_top.proofs.running.run_all.Given as goal
 
 abbrev pub invariant-loop-command : goal.invariant-loop-command
-invariant-loop-command l = record {
+invariant-loop-command g l = record {
+  count : length l.registers ≡ 16;
   low : AllByRecursion HasRegisters (drop l.command-index l.commands);
-  same : l.fn.out.items ++ replies map_reply map_after l.fn.registers l.commands ≡ l.out.items ++ replies map_reply map_after l.registers (drop l.command-index l.commands);
+  same : replies map_reply map_after (maps_of l.fn.registers) l.commands ≡ l.text.items ++ replies map_reply map_after (maps_of l.registers) (drop l.command-index l.commands);
 }

@@ -1,0 +1,28 @@
+-- The most steps of the commands of the tool map that promise one.
+use Rattle.std.specs.Prelude.{ℕ, ◌+◌, ◌*◌, List, [], Option, Some, None, slice_index_or}
+use Rattle.map_model.specs.Contents.{Contents}
+use Rattle.script.specs.declared.map.MapCommand.{MapCommand}
+use Rattle.script.specs.declared.map.MapCommand.TheVariants as command
+
+-- the height of the map of a register
+abbrev pub height_of : List (Contents ℕ ℕ) → ℕ → ℕ
+height_of kept i = (slice_index_or kept i (record { entries = []; height = 0 })).height
+
+-- the steps of a change of one entry in a map of a height, of a look-up in it, and of a fold over a range of it
+abbrev pub change_steps : ℕ → ℕ
+change_steps height = 64 * (height + 1) * (32 + 2) + 256
+
+abbrev pub get_steps : ℕ → ℕ
+get_steps height = height + 256
+
+abbrev pub fold_steps : ℕ → ℕ
+fold_steps height = 8 * height + 16 * 32
+
+-- the most steps of a command
+abbrev pub most_steps : List (Contents ℕ ℕ) → MapCommand → Option ℕ
+most_steps kept (command.Put place d k v) = Some (change_steps (height_of kept d))
+most_steps kept (command.Del place d k) = Some (change_steps (height_of kept d))
+most_steps kept (command.Get place m k) = Some (get_steps (height_of kept m))
+most_steps kept (command.Sum place m lo hi) = Some (fold_steps (height_of kept m))
+most_steps kept (command.Fold place m) = Some 0
+most_steps kept c = None

@@ -1,0 +1,88 @@
+-- What the commands of the tool map do to the registers, and what they reply.
+use Rattle.std.specs.Prelude.{[], ◌∷◌, ◌++◌, ℕ, List, Option, Some, None, length, codes, if◌then◌else◌}
+use Rattle.std.specs.Ordering.{nat_cmp}
+use Rattle.map_model.specs.Entries.{above, below, drop_key, lookup, set}
+use Rattle.map_model.specs.Operations.{after, build, dels, puts}
+use Rattle.map_model.specs.Parts.{next, prev, rank, select, slice}
+use Rattle.map_model.specs.SetOperations.{difference, intersect, union}
+use Rattle.aug_monoid.specs.declared.totals.Totals.{Totals}
+use Rattle.script.specs.Lines.{line_of}
+use Rattle.script.specs.declared.map.MapCommand.{MapCommand}
+use Rattle.script.specs.declared.map.MapCommand.TheVariants as command
+use Rattle.map_tool.specs.declared.effect.Effect as rust
+use Rattle.map_tool.specs.declared.effect.Effect.TheVariants as variant
+use Rattle.map_tool.specs.Registers.{Registers, register, with_register}
+use Rattle.map_tool.specs.Values.{entries_of, numbers_of, overlaps, range_totals, resolved_by, totals_of, values_from, values_within}
+
+-- a register gets a map, and the reply is its size; or no register changes, and the reply is a line
+pub data Effect : Type 0 where
+  changes : ℕ → List (ℕ × ℕ) → Effect
+  replies : List ℕ → Effect
+
+-- a value that may be absent
+abbrev pub found_line : Option ℕ → List ℕ
+found_line None = line_of (codes "none") []
+found_line (Some v) = line_of (codes "some") (v ∷ [])
+
+-- an entry that may be absent
+abbrev pub entry_line : Option (ℕ × ℕ) → List ℕ
+entry_line None = line_of (codes "none") []
+entry_line (Some e) = line_of (codes "entry") (e.0 ∷ e.1 ∷ [])
+
+abbrev pub totals_line : Totals → List ℕ
+totals_line t = line_of (codes "aug") (t.sum ∷ t.greatest ∷ [])
+
+abbrev pub list_line : List (ℕ × ℕ) → List ℕ
+list_line m = line_of (codes "list") (length m ∷ numbers_of m)
+
+-- what a command does, from the registers before it
+abbrev pub effect : Registers → MapCommand → Effect
+effect rs (command.Put place d k v) = changes d (set nat_cmp (register rs d) k v)
+effect rs (command.Del place d k) = changes d (drop_key nat_cmp (register rs d) k)
+effect rs (command.Get place m k) = replies (found_line (lookup nat_cmp (register rs m) k))
+effect rs (command.Size place m) = replies (line_of (codes "size") (length (register rs m) ∷ []))
+effect rs (command.Sum place m lo hi) = replies (totals_line (range_totals (register rs m) lo hi))
+effect rs (command.Fold place m) = replies (totals_line (totals_of (register rs m)))
+effect rs (command.Max place m lo hi) = replies (line_of (codes "max") ((range_totals (register rs m) lo hi).greatest ∷ []))
+effect rs (command.Rank place m k) = replies (line_of (codes "rank") (rank nat_cmp (register rs m) k ∷ []))
+effect rs (command.Select place m i) = replies (entry_line (select (register rs m) i))
+effect rs (command.Next place m k) = replies (entry_line (next nat_cmp (register rs m) k))
+effect rs (command.Prev place m k) = replies (entry_line (prev nat_cmp (register rs m) k))
+effect rs (command.List place m lo hi) = replies (list_line (slice nat_cmp (register rs m) lo hi))
+effect rs (command.Count place m lo hi) = replies (line_of (codes "count") (length (values_within (register rs m) lo hi) ∷ []))
+effect rs (command.Copy place d m) = changes d (register rs m)
+effect rs (command.Clear place d) = changes d []
+effect rs (command.Build place d pairs) = changes d (build nat_cmp (entries_of pairs))
+effect rs (command.Mput place d pairs) = changes d (after nat_cmp (register rs d) (puts (entries_of pairs)))
+effect rs (command.Mdel place d keys) = changes d (after nat_cmp (register rs d) (dels keys))
+effect rs (command.Union place d a b how) = changes d (union nat_cmp (resolved_by how) (register rs a) (register rs b))
+effect rs (command.Inter place d a b how) = changes d (intersect nat_cmp (resolved_by how) (register rs a) (register rs b))
+effect rs (command.Diff place d a b) = changes d (difference nat_cmp (register rs a) (register rs b))
+effect rs (command.Cat place d a b) =
+    if overlaps (register rs a) (register rs b) then replies (line_of (codes "overlap") []) else changes d (register rs a ++ register rs b)
+effect rs (command.Below place d m k) = changes d (below nat_cmp (register rs m) k)
+effect rs (command.Above place d m k) = changes d (above nat_cmp (register rs m) k)
+effect rs (command.Slice place d m lo hi) = changes d (slice nat_cmp (register rs m) lo hi)
+effect rs (command.Atleast place d m t) = changes d (values_from (register rs m) t)
+effect rs (command.Filter place d m lo hi) = changes d (values_within (register rs m) lo hi)
+
+abbrev pub registers_after : Registers → Effect → Registers
+registers_after rs (changes d m) = with_register rs d m
+registers_after rs (replies text) = rs
+
+abbrev pub reply_of : Effect → List ℕ
+reply_of (changes d m) = line_of (codes "ok") (length m ∷ [])
+reply_of (replies text) = text
+
+-- the registers after a command
+abbrev pub map_after : Registers → MapCommand → Registers
+map_after rs c = registers_after rs (effect rs c)
+
+-- the reply to a command, from the registers before it
+abbrev pub map_reply : Registers → MapCommand → List ℕ
+map_reply rs c = reply_of (effect rs c)
+
+-- the effect that a value of the program stands for
+abbrev pub seen : rust.Effect → Effect
+seen (variant.Changes d map) = changes d map.entries
+seen (variant.Replies text) = replies text.items

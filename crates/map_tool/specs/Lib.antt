@@ -1,0 +1,6 @@
+pub mod Registers
+pub mod Values
+pub mod Effects
+pub mod Bounds
+pub mod Counts
+pub mod Greatest

@@ -1,0 +1,116 @@
+//! What the tool asks of values: tests, counts, and how two values meet.
+ghost use Rattle.std.specs.Prelude.{◌≡◌, ◌+◌, ◌-◌, ◌^◌, ◌&&◌, ℕ, cond, min, max, nat_le};
+ghost use Rattle.aug_monoid.specs.declared.totals.Totals.{Totals};
+ghost use Rattle.map_tool.specs.Counts.{CountFits, count_fits, count_monoid};
+ghost use Rattle.map_tool.specs.Greatest.{GreatestFits, greatest_fits, greatest_monoid, greatest_projection, either_passes};
+ghost use Rattle.map_tool.specs.Values.{resolved_by};
+
+use aug_monoid::{AugTest, NoMemory, Project, Reduce, Resolve, SumMax, Test, Totals};
+use script::How;
+use std::alloc::Global;
+
+/// How the values of two maps meet.
+#[derive(Drop)]
+pub(crate) struct ByHow {
+    pub(crate) how: How,
+}
+
+impl Resolve<u64> for ByHow {
+    ghost resolved = { λ s a b. resolved_by s.how a b };
+
+    fn resolve(&self, _alloc: Global, a: &u64, b: &u64) -> Result<u64, NoMemory> {
+        Ok(match self.how {
+            How::First => *a,
+            How::Second => *b,
+            How::Sum => a.saturating_add(*b),
+            How::Max => *a.max(b),
+        })
+    }
+}
+
+/// The values from `lo` to `hi`.
+#[derive(Drop)]
+pub(crate) struct Within {
+    pub(crate) lo: u64,
+    pub(crate) hi: u64,
+}
+
+impl Test<u64, u64> for Within {
+    ghost passes = { λ s _ val. nat_le s.lo val && nat_le val s.hi };
+
+    fn holds(&self, _key: &u64, val: &u64) -> bool {
+        self.lo <= *val && *val <= self.hi
+    }
+}
+
+impl Reduce<u64, u64> for Within {
+    type Out = u64;
+
+    ghost Fits = { λ _. CountFits };
+
+    ghost image_of = { λ s _ val. cond (nat_le s.lo val && nat_le val s.hi) 1 0 };
+
+    ghost unit_of = { λ _. 0 };
+
+    ghost met = { λ _ a b. min (a + b) (2 ^ 64 - 1) };
+
+    ghost image_fits = { λ s _ val. count_fits (nat_le s.lo val && nat_le val s.hi) };
+
+    ghost monoid = { λ _. count_monoid };
+
+    fn of(&self, _alloc: Global, key: &u64, val: &u64) -> Result<u64, NoMemory> {
+        Ok(u64::from(self.holds(key, val)))
+    }
+
+    fn unit(&self) -> u64 {
+        0
+    }
+
+    fn meet(&self, _alloc: Global, a: u64, b: u64) -> Result<u64, NoMemory> {
+        Ok(a.saturating_add(b))
+    }
+}
+
+/// The values that are at least a number.
+#[derive(Drop)]
+pub(crate) struct AtLeast {
+    pub(crate) least: u64,
+}
+
+impl AugTest<SumMax<u64>> for AtLeast {
+    ghost admits = { λ s aug. nat_le s.least aug.greatest };
+
+    ghost passes_either = { λ s. either_passes s.least };
+
+    fn passes(&self, aug: &Totals) -> bool {
+        self.least <= aug.greatest
+    }
+}
+
+/// The greatest value.
+#[derive(Drop)]
+pub(crate) struct Greatest;
+
+impl Project<SumMax<u64>> for Greatest {
+    type Out = u64;
+
+    ghost Fits = { λ _. GreatestFits };
+
+    ghost image_of = { λ _ aug. aug.greatest };
+
+    ghost met = { λ _ a b. max a b };
+
+    ghost image_fits = { λ _ aug fits. greatest_fits aug fits };
+
+    ghost monoid = { λ _. greatest_monoid };
+
+    ghost projection = { λ _. greatest_projection };
+
+    fn image(&self, _alloc: Global, aug: &Totals) -> Result<u64, NoMemory> {
+        Ok(aug.greatest)
+    }
+
+    fn meet(&self, _alloc: Global, a: u64, b: u64) -> Result<u64, NoMemory> {
+        Ok(a.max(b))
+    }
+}

@@ -1,0 +1,3 @@
+pub mod History
+pub mod Prefix
+pub mod Sums

@@ -1,0 +1,13 @@
+//! Versions of a state: a base, a journal of entries, and the state after the journal's operations.
+#![tactic(auto)]
+
+mod batch;
+mod cross;
+mod state;
+#[cfg(test)]
+mod tests;
+mod version;
+
+pub use batch::{Batch, Entry};
+pub use state::{AtOnce, State, SyncState};
+pub use version::Version;

@@ -1,0 +1,129 @@
+//! A state with the journal that led to it.
+ghost use Rattle.std.specs.Prelude.{◌≡◌, length, ◌++◌, [], IfOk};
+ghost use Rattle.versions.specs.History.{history, state_of, after, batches_in};
+
+use crate::batch::{Batch, Entry};
+use crate::state::State;
+use aug_monoid::{NoMemory, Share};
+use fork_join::{Cut, Gate};
+use shared_log::SharedLog;
+use std::alloc::Global;
+use std::marker::{Model, Sync};
+use std::thread::Threads;
+
+/// A version, seen as its base and its journal. Its state is that after the journal's operations, applied in order to the base.
+#[derive(Drop)]
+pub struct Version<S: State> {
+    base: S,
+    journal: SharedLog<Entry<S::Op>>,
+    /// The state, unless it is the base.
+    state: Option<S>,
+}
+
+impl<S: State> Model for Version<S> {
+    ghost use Rattle.versions.specs.History.{History, history, IsStateOf};
+
+    ghost Value = { History S S.Op };
+
+    ghost view = { λ a. history a.base a.journal };
+
+    ghost invariant = { λ a. IsStateOf S.step (history a.base a.journal) a.state };
+}
+
+impl<S: State> Version<S> {
+    /// The version with this base and an empty journal. It takes no memory and makes no copy.
+    pub fn first(base: S) -> Version<S>
+        ensures { result ≡ history base [] }
+    {
+        Version {
+            base,
+            journal: SharedLog::new(),
+            state: None,
+        }
+    }
+
+    /// How many entries the journal has.
+    pub fn number(&self) -> u64
+        ensures { result ≡ length self.now.journal }
+    {
+        self.journal.len()
+    }
+
+    /// Lends the state after the journal's operations.
+    pub fn state(&self) -> &S
+        ensures { result.now ≡ state_of S.step self.now }
+    {
+        match &self.state {
+            None => &self.base,
+            Some(state) => state,
+        }
+    }
+
+    /// Lends the journal.
+    pub fn journal(&self) -> &SharedLog<Entry<S::Op>>
+        ensures { result.now ≡ self.now.journal }
+    {
+        &self.journal
+    }
+
+    /// The version with the same base, and with the entries at the end of the journal.
+    /// It applies the entries' operations alone, by the state's `apply`, and pushes one entry after another.
+    pub fn extend<R: Threads + Sync, G: Gate>(
+        &self,
+        rt: &R,
+        alloc: Global,
+        gate: &G,
+        cut: Cut,
+        entries: &[Entry<S::Op>],
+    ) -> Result<Version<S>, NoMemory>
+        ensures { IfOk result (λ version. version ≡ history self.now.base (self.now.journal ++ entries.now)) }
+    {
+        let batches = batches_of(alloc, entries)?;
+        let state = self
+            .state()
+            .apply(rt, alloc, gate, cut, batches.as_slice())?;
+        Ok(Version {
+            base: self.base.share(alloc)?,
+            journal: with_entries(alloc, &self.journal, entries)?,
+            state: Some(state),
+        })
+    }
+}
+
+/// The batches of the entries.
+fn batches_of<O: Share>(alloc: Global, entries: &[Entry<O>]) -> Result<Vec<Batch<O>>, NoMemory>
+    ensures { IfOk result (λ batches. batches.items ≡ batches_in entries.now) }
+{
+    let mut batches = Vec::with_capacity(alloc, entries.len())?;
+    for entry in entries {
+        batches.push(entry.batch.share(alloc)?)?;
+    }
+    Ok(batches)
+}
+
+/// The journal, and then the entries.
+fn with_entries<O: Share>(
+    alloc: Global,
+    journal: &SharedLog<Entry<O>>,
+    entries: &[Entry<O>],
+) -> Result<SharedLog<Entry<O>>, NoMemory>
+    ensures { IfOk result (λ longer. longer ≡ journal.now ++ entries.now) }
+{
+    let mut longer = journal.share(alloc)?;
+    for entry in entries {
+        longer = longer.push(alloc, entry.share(alloc)?)?;
+    }
+    Ok(longer)
+}
+
+impl<S: State> Share for Version<S> {
+    ghost never_refuses = { ⊥ };
+
+    fn share(&self, alloc: Global) -> Result<Version<S>, NoMemory> {
+        Ok(Version {
+            base: self.base.share(alloc)?,
+            journal: self.journal.share(alloc)?,
+            state: self.state.share(alloc)?,
+        })
+    }
+}
