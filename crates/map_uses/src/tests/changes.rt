@@ -41,23 +41,30 @@ fn taken_apart<L: Leaf<u64, u64>, const B: usize, C: Ledger>(
     Ok(lists)
 }
 
-fn put_together<L: Leaf<u64, u64>, const B: usize, C: Ledger>(
+fn merged<L: Leaf<u64, u64>, const B: usize>(
     alloc: Global,
     map: &Sums<L, B>,
-    steps: &mut Steps<C>,
-) -> Result<Vec<Entries>, NoMemory>
+) -> Result<Entries, NoMemory>
     requires { IsBlockSize B }
 {
-    let mut lists = Vec::new(alloc);
     let other: Sums<L, B> = MapOver::single(alloc, 4, 5)?;
-    lists.push(MapOver::merge(alloc, map, &other, &SatSum)?.to_vec(alloc)?)?;
-    let none: Sums<L, B> = MapOver::empty();
-    lists.push(MapOver::join(alloc, &none, 7, 70, &none, steps)?.to_vec(alloc)?)?;
-    lists.push(MapOver::join2(alloc, &none, map, steps)?.to_vec(alloc)?)?;
-    Ok(lists)
+    MapOver::merge(alloc, map, &other, &SatSum)?.to_vec(alloc)
 }
 
-type Table = (Vec<Entries>, Vec<Entries>, Vec<Entries>);
+/// The map split at a key, joined around the key with value 61, and joined without it.
+fn joined<L: Leaf<u64, u64>, const B: usize, C: Ledger>(
+    alloc: Global,
+    map: &Sums<L, B>,
+    key: u64,
+    steps: &mut Steps<C>,
+) -> Result<(Entries, Entries), NoMemory> {
+    let parts = map.split(alloc, &key, steps)?;
+    let around = MapOver::join(alloc, &parts.below, key, 61, &parts.above, steps)?;
+    let closed = MapOver::join2(alloc, &parts.below, &parts.above, steps)?;
+    Ok((around.to_vec(alloc)?, closed.to_vec(alloc)?))
+}
+
+type Table = (Vec<Entries>, Vec<Entries>, Entries, (Entries, Entries));
 
 fn changes_in<L: Leaf<u64, u64>, const B: usize, C: Ledger>(
     alloc: Global,
@@ -68,27 +75,28 @@ fn changes_in<L: Leaf<u64, u64>, const B: usize, C: Ledger>(
     let map: Sums<L, B> = map_of(alloc, &[(6, 60), (2, 20), (8, 80), (4, 40)], steps)?;
     let single = changed(alloc, &map, steps)?;
     let apart = taken_apart(alloc, &map, steps)?;
-    let together = put_together(alloc, &map, steps)?;
-    Ok((single, apart, together))
+    let whole = merged(alloc, &map)?;
+    let rejoined = joined(alloc, &map, 6, steps)?;
+    Ok((single, apart, whole, rejoined))
 }
 
-fn changes_counted<L: Leaf<u64, u64>, const B: usize, C: Ledger>(
+/// The same for blocks of 2 and of 32 entries.
+fn changes_counted<L: Leaf<u64, u64>, C: Ledger>(
     alloc: Global,
     blank: Blank,
-) -> Result<Table, NoMemory>
-    requires size { IsBlockSize B }
+) -> Result<(Table, Table), NoMemory>
     requires name { blank.name ≡ C.name }
     requires parts { blank.parts ≡ C.parts }
     requires some { 0 < blank.parts }
 {
     let mut steps = Steps::<C>::start(blank);
-    changes_in::<L, B, C>(alloc, &mut steps)
+    let two = changes_in::<L, 2, C>(alloc, &mut steps)?;
+    let many = changes_in::<L, 32, C>(alloc, &mut steps)?;
+    Ok((two, many))
 }
 
-fn changes<L: Leaf<u64, u64>, const B: usize>(alloc: Global) -> Result<Table, NoMemory>
-    requires { IsBlockSize B }
-{
-    changes_counted::<L, B, Brand>(alloc, Blank::new(1))
+fn changes<L: Leaf<u64, u64>>(alloc: Global) -> Result<(Table, Table), NoMemory> {
+    changes_counted::<L, Brand>(alloc, Blank::new(1))
 }
 
 fn assert_changes<R: Abort>(rt: &R, lists: &Table) {
@@ -103,22 +111,25 @@ fn assert_changes<R: Abort>(rt: &R, lists: &Table) {
         &[(2, 20)],
         &[(6, 60), (8, 80)],
     ];
-    let together: [&[(u64, u64)]; 3] = [
-        &[(2, 20), (4, 45), (6, 60), (8, 80)],
-        &[(7, 70)],
-        &[(2, 20), (4, 40), (6, 60), (8, 80)],
-    ];
     assert_lists(rt, &lists.0, &single);
     assert_lists(rt, &lists.1, &apart);
-    assert_lists(rt, &lists.2, &together);
+    assert_eq!(rt;
+        lists.2.as_slice(),
+        [(2, 20), (4, 45), (6, 60), (8, 80)].as_slice()
+    );
+    assert_eq!(rt; lists.3.0.as_slice(), [(2, 20), (4, 40), (6, 61), (8, 80)].as_slice());
+    assert_eq!(rt; lists.3.1.as_slice(), [(2, 20), (4, 40), (8, 80)].as_slice());
 }
 
 #[test]
 fn one_entry_at_a_time(rt: HostRuntime) -> Result<(), Fail> {
     let alloc = rt.alloc();
-    assert_changes(&rt, &changes::<PlainLeaf<u64, u64>, 32>(alloc)?);
-    assert_changes(&rt, &changes::<PlainLeaf<u64, u64>, 2>(alloc)?);
-    assert_changes(&rt, &changes::<DiffLeaf<u64>, 32>(alloc)?);
+    let plain = changes::<PlainLeaf<u64, u64>>(alloc)?;
+    assert_changes(&rt, &plain.0);
+    assert_changes(&rt, &plain.1);
+    let coded = changes::<DiffLeaf<u64>>(alloc)?;
+    assert_changes(&rt, &coded.0);
+    assert_changes(&rt, &coded.1);
     Ok(())
 }
 

@@ -64,38 +64,31 @@ fn run_in<R: Abort, L: Leaf<u64, u64>, const B: usize, C: Ledger>(
     Ok(())
 }
 
-fn run_counted<R: Abort, L: Leaf<u64, u64>, const B: usize, C: Ledger>(
+/// The same for blocks of 1, 2 and 32 entries.
+fn run_counted<R: Abort, L: Leaf<u64, u64>, C: Ledger>(
     rt: &R,
     alloc: Global,
     seed: u64,
     blank: Blank,
 ) -> Result<(), NoMemory>
-    requires size { IsBlockSize B }
     requires name { blank.name ≡ C.name }
     requires parts { blank.parts ≡ C.parts }
     requires some { 0 < blank.parts }
 {
     let mut steps = Steps::<C>::start(blank);
-    run_in::<R, L, B, C>(rt, alloc, seed, &mut steps)
+    run_in::<R, L, 1, C>(rt, alloc, seed, &mut steps)?;
+    run_in::<R, L, 2, C>(rt, alloc, seed, &mut steps)?;
+    run_in::<R, L, 32, C>(rt, alloc, seed, &mut steps)
 }
 
-fn run<R: Abort, L: Leaf<u64, u64>, const B: usize>(
-    rt: &R,
-    alloc: Global,
-    seed: u64,
-) -> Result<(), NoMemory>
-    requires { IsBlockSize B }
-{
-    run_counted::<R, L, B, Brand>(rt, alloc, seed, Blank::new(1))
+fn run<R: Abort, L: Leaf<u64, u64>>(rt: &R, alloc: Global, seed: u64) -> Result<(), NoMemory> {
+    run_counted::<R, L, Brand>(rt, alloc, seed, Blank::new(1))
 }
 
 #[test]
 fn maps_answer_as_a_sorted_list(rt: HostRuntime) -> Result<(), Fail> {
     let alloc = rt.alloc();
-    run::<HostRuntime, PlainLeaf<u64, u64>, 1>(&rt, alloc, 1)?;
-    run::<HostRuntime, PlainLeaf<u64, u64>, 2>(&rt, alloc, 2)?;
-    run::<HostRuntime, PlainLeaf<u64, u64>, 32>(&rt, alloc, 3)?;
-    run::<HostRuntime, DiffLeaf<u64>, 2>(&rt, alloc, 4)?;
-    run::<HostRuntime, DiffLeaf<u64>, 32>(&rt, alloc, 5)?;
+    run::<HostRuntime, PlainLeaf<u64, u64>>(&rt, alloc, 1)?;
+    run::<HostRuntime, DiffLeaf<u64>>(&rt, alloc, 2)?;
     Ok(())
 }

@@ -4,7 +4,8 @@ ghost use Rattle.std.proofs.Common.{arith};
 ghost use Rattle.map_model.specs.Balance.{IsBlockSize};
 
 use aug_map::{Map, MapOver};
-use aug_monoid::{Augment, NoMemory, Steps};
+use aug_monoid::{Augment, Leaf, NoMemory, Steps};
+use diff_leaf::DiffLeaf;
 use leaf_blocks::PlainLeaf;
 use std::alloc::Global;
 use std::marker::Brand;
@@ -62,16 +63,18 @@ impl Augment for NotNine {
     }
 }
 
-type Sums<const B: usize> = Map<NotNine, PlainLeaf<u64, u64>, B>;
+type Sums<L, const B: usize> = Map<NotNine, L, B>;
+
+type Refused = (bool, u64, bool, u64);
 
 /// A fold that is refused and one that isn't, a put that is refused, and the size of the map thereafter.
-fn refused_in<const B: usize, C: Ledger>(
+fn refused_in<L: Leaf<u64, u64>, const B: usize, C: Ledger>(
     alloc: Global,
     steps: &mut Steps<C>,
-) -> Result<(bool, u64, bool, u64), NoMemory>
+) -> Result<Refused, NoMemory>
     requires size { IsBlockSize B }
 {
-    let mut map: Sums<B> = MapOver::empty();
+    let mut map: Sums<L, B> = MapOver::empty();
     for (key, val) in [(1, 3), (2, 4), (3, 5)] {
         map = map.put(alloc, key, val, steps)?;
     }
@@ -81,31 +84,32 @@ fn refused_in<const B: usize, C: Ledger>(
     Ok((nine, seven, put, map.size()))
 }
 
-fn refused_counted<const B: usize, C: Ledger>(
+/// The same for blocks of 1 and of 32 entries.
+fn refused_counted<L: Leaf<u64, u64>, C: Ledger>(
     alloc: Global,
     blank: Blank,
-) -> Result<(bool, u64, bool, u64), NoMemory>
-    requires size { IsBlockSize B }
+) -> Result<(Refused, Refused), NoMemory>
     requires name { blank.name ≡ C.name }
     requires parts { blank.parts ≡ C.parts }
     requires some { 0 < blank.parts }
 {
     let mut steps = Steps::<C>::start(blank);
-    refused_in::<B, C>(alloc, &mut steps)
+    let one = refused_in::<L, 1, C>(alloc, &mut steps)?;
+    let many = refused_in::<L, 32, C>(alloc, &mut steps)?;
+    Ok((one, many))
 }
 
-fn refused<const B: usize>(alloc: Global) -> Result<(bool, u64, bool, u64), NoMemory>
-    requires { IsBlockSize B }
-{
-    refused_counted::<B, Brand>(alloc, Blank::new(1))
+fn refused<L: Leaf<u64, u64>>(alloc: Global) -> Result<(Refused, Refused), NoMemory> {
+    refused_counted::<L, Brand>(alloc, Blank::new(1))
 }
 
 #[test]
 fn a_refused_fold_leaves_the_map(rt: HostRuntime) -> Result<(), Fail> {
     let alloc = rt.alloc();
-    let one = refused::<1>(alloc)?;
-    assert_eq!(rt; one, (true, 7, true, 3));
-    let many = refused::<32>(alloc)?;
-    assert_eq!(rt; many, (true, 7, true, 3));
+    let plain = refused::<PlainLeaf<u64, u64>>(alloc)?;
+    assert_eq!(rt; plain.0, (true, 7, true, 3));
+    assert_eq!(rt; plain.1, (true, 7, true, 3));
+    let coded = refused::<DiffLeaf<u64>>(alloc)?;
+    assert_eq!(rt; coded.1, (true, 7, true, 3));
     Ok(())
 }
