@@ -1,0 +1,11 @@
+//! The map type at concrete types.
+mod changes;
+mod counted;
+mod counting;
+mod cursors;
+mod nested;
+mod plain;
+mod queries;
+mod refusing;
+mod sums;
+mod wholes;
