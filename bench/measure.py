@@ -31,9 +31,11 @@ def build(folder):
 
 def run(words, path=os.devnull):
     """One run on the file at path. GNU time tells the peak, as what Linux tells of a child starts at the peak of its parent."""
-    with open(path, "rb") as given, tempfile.TemporaryFile() as out, tempfile.TemporaryFile() as told, tempfile.NamedTemporaryFile() as peak:
+    temporary = tempfile.TemporaryFile
+    with open(path, "rb") as given, temporary() as out, temporary() as told, tempfile.NamedTemporaryFile() as peak:
+        timed = ["/usr/bin/time", "-q", "-f", "%M", "-o", peak.name, *words]
         start = time.monotonic()
-        child = subprocess.Popen(["/usr/bin/time", "-q", "-f", "%M", "-o", peak.name, *words], stdin=given, stdout=out, stderr=told)
+        child = subprocess.Popen(timed, stdin=given, stdout=out, stderr=told)
         _, status, usage = os.wait4(child.pid, 0)
         elapsed = time.monotonic() - start
         if status:
@@ -46,8 +48,8 @@ def run(words, path=os.devnull):
 
 def best(runs):
     """The least times and the most memory of some runs."""
-    told = min((one.told for one in runs), key=lambda told: int(told or 0))
-    return Run(min(one.elapsed for one in runs), min(one.processor for one in runs), max(one.peak for one in runs), runs[0].checksum, told)
+    elapsed, processor, peak, checksum, told = zip(*runs)
+    return Run(min(elapsed), min(processor), max(peak), checksum[0], min(told, key=lambda text: int(text or 0)))
 
 
 def in_turn(programs, times, path=os.devnull):
@@ -61,7 +63,7 @@ def in_turn(programs, times, path=os.devnull):
     return {name: best(all_runs) for name, all_runs in runs.items()}
 
 
-def processor():
+def model():
     """The name of this machine's processor."""
     with open("/proc/cpuinfo") as file:
         return next((line.split(":")[1].strip() for line in file if line.startswith("model name")), "an unknown processor")
@@ -73,8 +75,9 @@ def origin(times):
     compiler = subprocess.run(["rustc", "--version"], capture_output=True, text=True).stdout.split("(")[0].strip()
     load = os.getloadavg()[0]
     command = f"bench/{os.path.basename(sys.argv[0])} --write"
-    return (f"`{command}`, {datetime.date.today()}, the best of {times} runs in turn. {os.cpu_count()} processors ({processor()}), {memory} GB, "
-            f"{compiler}, `cargo build --release`. Other work ran beside: the load was {load:.0f} at the end.")
+    machine = f"{os.cpu_count()} processors ({model()}), {memory} GB"
+    return (f"`{command}`, {datetime.date.today()}, the best of {times} runs in turn. {machine}, {compiler}, "
+            f"`cargo build --release`. Other work ran beside: the load was {load:.0f} at the end.")
 
 
 def table(head, rows):
