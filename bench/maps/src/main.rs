@@ -33,6 +33,12 @@ impl Numbers {
         (key, self.next() >> 44)
     }
 
+    /// A pair with a key of 64 bits.
+    fn wide_pair(&mut self) -> (u64, u64) {
+        let key = self.next() ^ (self.next() >> 32);
+        (key, self.next() >> 57)
+    }
+
     fn pairs(&mut self, count: u64, bound: u64) -> Vec<(u64, u64)> {
         (0..count).map(|_| self.pair(bound)).collect()
     }
@@ -271,6 +277,14 @@ fn walk(size: u64, seed: u64) {
     report(Checksum::of(&map), start);
 }
 
+/// The pairs of `coded` and `coded_rising` as a map, whose memory the harness reads off the process.
+fn held(pairs: Vec<(u64, u64)>) {
+    let start = Instant::now();
+    let map = built(&pairs);
+    report(map.len() as u64, start);
+    black_box((map, pairs));
+}
+
 fn main() {
     let words: Vec<String> = std::env::args().collect();
     let size: u64 = words[2].parse().expect("a size");
@@ -304,6 +318,11 @@ fn main() {
         "select" => selects(size, seed),
         "neighbours" => neighbours(size, seed),
         "walk" => walk(size, seed),
+        "coded" => {
+            let mut numbers = Numbers::new(seed);
+            held((0..size).map(|_| numbers.wide_pair()).collect());
+        }
+        "coded_rising" => held((0..size).map(|key| (key, key % 100)).collect()),
         other => panic!("no operation {other}"),
     }
 }

@@ -1,0 +1,39 @@
+//! The program `pam` in plain Rust over `BTreeMap`, for records without quotes.
+//!
+//! `program_baseline map` reads standard input whole, then all its lines, then runs them, and writes the replies at once, as
+//! `pam map` does. `program_baseline sample SIZE SEED` does what `pam --size SIZE --seed SEED sample` does.
+mod registers;
+mod replies;
+mod sample;
+mod script;
+
+use std::env;
+use std::io::{self, Read, Write};
+use std::process::ExitCode;
+
+fn write(text: &[u8], code: u8) -> io::Result<ExitCode> {
+    io::stdout().lock().write_all(text)?;
+    Ok(ExitCode::from(code))
+}
+
+fn map() -> io::Result<ExitCode> {
+    let mut input = Vec::new();
+    io::stdin().lock().read_to_end(&mut input)?;
+    match script::commands(&input) {
+        Ok(commands) => write(&registers::run(commands), 0),
+        Err(fault) => write(fault.to_string().as_bytes(), 3),
+    }
+}
+
+fn main() -> io::Result<ExitCode> {
+    let words: Vec<String> = env::args().skip(1).collect();
+    let words: Vec<&str> = words.iter().map(String::as_str).collect();
+    match words[..] {
+        ["map"] => map(),
+        ["sample", size, seed] => match (size.parse(), seed.parse()) {
+            (Ok(size), Ok(seed)) => write(&registers::run(sample::commands(size, seed)), 0),
+            _ => Ok(ExitCode::from(2)),
+        },
+        _ => Ok(ExitCode::from(2)),
+    }
+}
