@@ -1,0 +1,5 @@
+pub mod Seats
+pub mod Root
+pub mod Steps
+pub mod Answers
+pub mod Sums
