@@ -1,12 +1,14 @@
 //! A gate that holds each half until the other has come.
 
-use crate::runs::Multiples;
-use aug_monoid::Second;
+use crate::runs::multiples_of;
+use aug_monoid::{NoMemory, Second};
 use bulk_ops::union;
 use fork_join::{Cut, Gate};
+use std::alloc::Global;
+use std::marker::Sync;
 use std::sync::atomic::{AtomicU64, Ordering};
 use std::test::Fail;
-use std::thread::yield_now;
+use std::thread::{Threads, yield_now};
 
 const TURN_LIMIT: u64 = 10_000_000;
 
@@ -53,27 +55,31 @@ impl Gate for Meeting {
     }
 }
 
+// The sizes of two maps and of their union in two threads, and which halves came and gave up.
+fn united_halves<R: Threads + Sync>(
+    rt: &R,
+    alloc: Global,
+) -> Result<(u64, u64, u64, u64, u64, u64), NoMemory> {
+    let cut = Cut::new(2, 1);
+    let a = multiples_of(2, 0, 8192).tree::<R, 32>(rt, alloc, cut)?;
+    let b = multiples_of(3, 0, 12288).tree::<R, 32>(rt, alloc, cut)?;
+    let gate = new_meeting();
+    let both = union(rt, alloc, &gate, cut, &a, &b, &Second)?;
+    Ok((
+        a.size(),
+        b.size(),
+        both.size(),
+        gate.left_came.load(Ordering::SeqCst),
+        gate.right_came.load(Ordering::SeqCst),
+        gate.gave_up.load(Ordering::SeqCst),
+    ))
+}
+
 #[test]
 fn halves_of_a_union_meet(rt: HostRuntime) -> Result<(), Fail> {
-    let cut = Cut::new(2, 1);
-    let evens = Multiples {
-        step: 2,
-        from: 0,
-        end: 8192,
-    };
-    let threes = Multiples {
-        step: 3,
-        from: 0,
-        end: 12288,
-    };
-    let a = evens.tree::<HostRuntime, 32>(&rt, rt.alloc(), cut)?;
-    let b = threes.tree::<HostRuntime, 32>(&rt, rt.alloc(), cut)?;
-    assert_eq!(rt; (a.size(), b.size()), (4096, 4096));
-    let gate = new_meeting();
-    let both = union(&rt, rt.alloc(), &gate, cut, &a, &b, &Second)?;
-    assert_eq!(rt; both.size(), 6826);
-    assert_eq!(rt; gate.left_came.load(Ordering::SeqCst), 1);
-    assert_eq!(rt; gate.right_came.load(Ordering::SeqCst), 1);
-    assert_eq!(rt; gate.gave_up.load(Ordering::SeqCst), 0);
+    assert_eq!(rt;
+        united_halves(&rt, rt.alloc())?,
+        (4096, 4096, 6826, 1, 1, 0)
+    );
     Ok(())
 }

@@ -99,54 +99,72 @@ fn ones(alloc: Global, from: u64, end: u64) -> Result<Vec<(u64, u64)>, NoMemory>
     Ok(pairs)
 }
 
-fn capped<R: Threads + Sync, const B: usize>(
+fn is_build_refused<R: Threads + Sync, const B: usize>(
     rt: &R,
     alloc: Global,
-    from: u64,
-    end: u64,
-) -> Result<Capped<B>, NoMemory>
+    pairs: &[(u64, u64)],
+) -> bool
     requires { IsBlockSize B }
 {
-    let pairs = ones(alloc, from, end)?;
-    build(rt, alloc, &FreeGate, Cut::new(4, 1), pairs.as_slice())
+    let tree: Result<Capped<B>, NoMemory> = build(rt, alloc, &FreeGate, Cut::new(4, 1), pairs);
+    tree.is_err()
 }
 
-// That the map has the keys from one number on and below another.
-fn has_ones<const B: usize>(
+// Whether a union is refused, and the entries that its maps have then.
+fn refused_union<R: Threads + Sync, const B: usize>(
+    rt: &R,
     alloc: Global,
-    tree: &Capped<B>,
-    from: u64,
-    end: u64,
-) -> Result<bool, NoMemory> {
+    low: &[(u64, u64)],
+    high: &[(u64, u64)],
+) -> Result<(bool, Vec<(u64, u64)>), NoMemory>
+    requires { IsBlockSize B }
+{
+    let cut = Cut::new(4, 1);
+    let a: Capped<B> = build(rt, alloc, &FreeGate, cut, low)?;
+    let b: Capped<B> = build(rt, alloc, &FreeGate, cut, high)?;
+    let refused = union(rt, alloc, &FreeGate, cut, &a, &b, &First).is_err();
+    let mut entries = Vec::new(alloc);
+    a.push_entries(alloc, &mut entries)?;
+    b.push_entries(alloc, &mut entries)?;
+    Ok((refused, entries))
+}
+
+// Whether a filter by keys below 1000 is refused, and the entries that its map has then.
+fn refused_filter<R: Threads + Sync, const B: usize>(
+    rt: &R,
+    alloc: Global,
+    pairs: &[(u64, u64)],
+) -> Result<(bool, Vec<(u64, u64)>), NoMemory>
+    requires { IsBlockSize B }
+{
+    let cut = Cut::new(4, 1);
+    let tree: Capped<B> = build(rt, alloc, &FreeGate, cut, pairs)?;
+    let refused = filter(rt, alloc, &FreeGate, cut, &tree, &KeyBelow { limit: 1000 }).is_err();
     let mut entries = Vec::new(alloc);
     tree.push_entries(alloc, &mut entries)?;
-    Ok(entries == ones(alloc, from, end)?)
+    Ok((refused, entries))
 }
 
 // Whether a build, a union and a filter are refused where the sum is 1000, and leave their arguments.
 fn refusals<R: Threads + Sync, const B: usize>(
     rt: &R,
     alloc: Global,
-) -> Result<(bool, bool, bool, bool), NoMemory>
+) -> Result<(bool, bool, bool), NoMemory>
     requires { IsBlockSize B }
 {
-    let cut = Cut::new(4, 1);
-    let low = capped::<R, B>(rt, alloc, 0, 500)?;
-    let high = capped::<R, B>(rt, alloc, 500, 1000)?;
-    let all = capped::<R, B>(rt, alloc, 0, 1001)?;
-    let test = KeyBelow { limit: 1000 };
-    let built = capped::<R, B>(rt, alloc, 0, 1000).is_err();
-    let united = union(rt, alloc, &FreeGate, cut, &low, &high, &First).is_err();
-    let filtered = filter(rt, alloc, &FreeGate, cut, &all, &test).is_err();
-    let unchanged = has_ones(alloc, &low, 0, 500)?
-        && has_ones(alloc, &high, 500, 1000)?
-        && has_ones(alloc, &all, 0, 1001)?;
-    Ok((built, united, filtered, unchanged))
+    let low = ones(alloc, 0, 500)?;
+    let high = ones(alloc, 500, 1000)?;
+    let whole = ones(alloc, 0, 1000)?;
+    let more = ones(alloc, 0, 1001)?;
+    let built = is_build_refused::<R, B>(rt, alloc, whole.as_slice());
+    let (united, both) = refused_union::<R, B>(rt, alloc, low.as_slice(), high.as_slice())?;
+    let (filtered, all) = refused_filter::<R, B>(rt, alloc, more.as_slice())?;
+    Ok((built, united && both == whole, filtered && all == more))
 }
 
 #[test]
 fn a_sum_of_1000_is_refused(rt: HostRuntime) -> Result<(), Fail> {
-    let refused = (true, true, true, true);
+    let refused = (true, true, true);
     assert_eq!(rt; refusals::<HostRuntime, 1>(&rt, rt.alloc())?, refused);
     assert_eq!(rt; refusals::<HostRuntime, 32>(&rt, rt.alloc())?, refused);
     Ok(())

@@ -15,9 +15,13 @@ pub(crate) type Sums<const B: usize> = Tree<SumMax<u64>, PlainLeaf<u64, u64>, B>
 /// The multiples of a step from a number on and below another.
 #[derive(Clone, Copy, Debug)]
 pub(crate) struct Multiples {
-    pub(crate) step: u64,
-    pub(crate) from: u64,
+    step: u64,
+    from: u64,
     pub(crate) end: u64,
+}
+
+pub(crate) fn multiples_of(step: u64, from: u64, end: u64) -> Multiples {
+    Multiples { step, from, end }
 }
 
 impl Multiples {
@@ -53,14 +57,4 @@ impl Multiples {
         let pairs = self.falling(alloc)?;
         build(rt, alloc, &FreeGate, cut, pairs.as_slice())
     }
-}
-
-/// The entries of a map.
-pub(crate) fn listed<const B: usize>(
-    alloc: Global,
-    tree: &Sums<B>,
-) -> Result<Vec<(u64, u64)>, NoMemory> {
-    let mut entries = Vec::new(alloc);
-    tree.push_entries(alloc, &mut entries)?;
-    Ok(entries)
 }

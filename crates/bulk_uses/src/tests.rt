@@ -1,7 +1,7 @@
 //! Each operation at concrete types, against plain lists.
 ghost use Rattle.map_model.specs.Balance.{IsBlockSize};
 
-use crate::runs::{Multiples, Sums, listed};
+use crate::runs::{Multiples, Sums, multiples_of};
 use aug_monoid::{First, NoMemory, Reduce, Second, Test};
 use bulk_ops::{build, difference, filter, intersect, map_reduce, multi_del, multi_put, union};
 use fork_join::{Cut, FreeGate};
@@ -62,7 +62,9 @@ fn answered<R: Threads + Sync, const B: usize>(
         Combined::Intersection => intersect(rt, alloc, &FreeGate, cut, &first, &second, &Second)?,
         Combined::Difference => difference(rt, alloc, &FreeGate, cut, &first, &second)?,
     };
-    listed(alloc, &answer)
+    let mut entries = Vec::new(alloc);
+    answer.push_entries(alloc, &mut entries)?;
+    Ok(entries)
 }
 
 // That the call answers what is wanted, in blocks of three sizes.
@@ -81,21 +83,17 @@ fn answers<R: Threads + Sync>(
     Ok(one == entries && two == entries && many == entries)
 }
 
-fn multiples(step: u64, from: u64, end: u64) -> Multiples {
-    Multiples { step, from, end }
-}
-
 #[test]
 fn two_maps_are_combined_key_by_key(rt: HostRuntime) -> Result<(), Fail> {
-    let evens = multiples(2, 0, 3000);
+    let evens = multiples_of(2, 0, 3000);
     for (a, b) in [
         (evens, evens),
-        (evens, multiples(3, 0, 4500)),
-        (multiples(1, 0, 1000), multiples(1, 1000, 1700)),
-        (evens, multiples(700, 7, 3000)),
-        (multiples(999, 0, 9000), evens),
-        (evens, multiples(1, 0, 0)),
-        (multiples(1, 0, 0), evens),
+        (evens, multiples_of(3, 0, 4500)),
+        (multiples_of(1, 0, 1000), multiples_of(1, 1000, 1700)),
+        (evens, multiples_of(700, 7, 3000)),
+        (multiples_of(999, 0, 9000), evens),
+        (evens, multiples_of(1, 0, 0)),
+        (multiples_of(1, 0, 0), evens),
     ] {
         for call in [
             Combined::Union,
@@ -113,24 +111,37 @@ fn two_maps_are_combined_key_by_key(rt: HostRuntime) -> Result<(), Fail> {
     Ok(())
 }
 
+// The entries of a map that is built, put to and taken from.
+fn batched<R: Threads + Sync>(
+    rt: &R,
+    alloc: Global,
+    pairs: &[(u64, u64)],
+    puts: &[(u64, u64)],
+    keys: &[u64],
+) -> Result<Vec<(u64, u64)>, NoMemory> {
+    let cut = Cut::new(2, 1);
+    let built: Sums<2> = build(rt, alloc, &FreeGate, cut, pairs)?;
+    let put = multi_put(rt, alloc, &FreeGate, cut, &built, puts)?;
+    let left = multi_del(rt, alloc, &FreeGate, cut, &put, keys)?;
+    let mut entries = Vec::new(alloc);
+    left.push_entries(alloc, &mut entries)?;
+    Ok(entries)
+}
+
 #[test]
 fn a_later_pair_of_a_key_wins(rt: HostRuntime) -> Result<(), Fail> {
-    let cut = Cut::new(2, 1);
     let pairs = [(5, 50), (1, 10), (5, 51), (3, 30)];
-    let built: Sums<2> = build(&rt, rt.alloc(), &FreeGate, cut, &pairs)?;
-    let entries = listed(rt.alloc(), &built)?;
-    assert_eq!(rt; entries.as_slice(), [(1, 10), (3, 30), (5, 51)].as_slice());
     let puts = [(4, 40), (3, 31), (4, 41)];
-    let put = multi_put(&rt, rt.alloc(), &FreeGate, cut, &built, &puts)?;
-    let entries = listed(rt.alloc(), &put)?;
+    let keys = [9, 5, 0, 3, 5];
+    let built = batched(&rt, rt.alloc(), &pairs, &[], &[])?;
+    assert_eq!(rt; built.as_slice(), [(1, 10), (3, 30), (5, 51)].as_slice());
+    let put = batched(&rt, rt.alloc(), &pairs, &puts, &[])?;
     assert_eq!(rt;
-        entries.as_slice(),
+        put.as_slice(),
         [(1, 10), (3, 31), (4, 41), (5, 51)].as_slice()
     );
-    let keys = [9, 5, 0, 3, 5];
-    let left = multi_del(&rt, rt.alloc(), &FreeGate, cut, &put, &keys)?;
-    let entries = listed(rt.alloc(), &left)?;
-    assert_eq!(rt; entries.as_slice(), [(1, 10), (4, 41)].as_slice());
+    let left = batched(&rt, rt.alloc(), &pairs, &puts, &keys)?;
+    assert_eq!(rt; left.as_slice(), [(1, 10), (4, 41)].as_slice());
     Ok(())
 }
 
@@ -189,19 +200,27 @@ impl Reduce<u64, u64> for KeySum {
     }
 }
 
+// How many of the first thousand keys are below a limit, and their sum.
+fn filtered_sum<R: Threads + Sync>(
+    rt: &R,
+    alloc: Global,
+    cut: Cut,
+    limit: u64,
+) -> Result<(u64, u64), NoMemory> {
+    let all = multiples_of(1, 0, 1000).tree::<R, 2>(rt, alloc, cut)?;
+    let part = filter(rt, alloc, &FreeGate, cut, &all, &KeyBelow { limit })?;
+    let sum = map_reduce(rt, alloc, &FreeGate, cut, &part, &KeySum)?;
+    Ok((part.size(), sum))
+}
+
 #[test]
 fn a_part_is_filtered_and_summed(rt: HostRuntime) -> Result<(), Fail> {
-    let all = multiples(1, 0, 1000).tree::<HostRuntime, 2>(&rt, rt.alloc(), Cut::new(1, 1))?;
-    for (workers, limit, size, sum) in [
-        (Cut::new(1, 1), 0, 0, 0),
-        (Cut::new(4, 1), 100, 100, 4950),
-        (Cut::new(64, 1), 1000, 1000, 499_500),
+    for (cut, limit, wanted) in [
+        (Cut::new(1, 1), 0, (0, 0)),
+        (Cut::new(4, 1), 100, (100, 4950)),
+        (Cut::new(64, 1), 1000, (1000, 499_500)),
     ] {
-        let test = KeyBelow { limit };
-        let part = filter(&rt, rt.alloc(), &FreeGate, workers, &all, &test)?;
-        assert_eq!(rt; part.size(), size);
-        let total = map_reduce(&rt, rt.alloc(), &FreeGate, workers, &part, &KeySum)?;
-        assert_eq!(rt; total, sum);
+        assert_eq!(rt; filtered_sum(&rt, rt.alloc(), cut, limit)?, wanted);
     }
     Ok(())
 }

@@ -2,7 +2,6 @@
 use Rattle.std.proofs.Common.{◌≡◌, ◌∙◌, ◌+◌, ◌*◌, ◌++◌, ◌∷◌, [], ℕ, zero, suc, map, refl, ap, arith}
 use Rattle.std.specs.List.{range_with_len}
 use Rattle.std.proofs.lemmas.List.FromFn.{map-range_with_len_more}
-use Rattle.aug_monoid.specs.declared.pair64.Pair64.{Pair64}
 use Rattle.pam_top.specs.Sample.{next_number, number_at, pair_at}
 
 -- the numbers after one of the generator's are its later ones
