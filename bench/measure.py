@@ -77,7 +77,7 @@ def origin(times):
     command = f"bench/{os.path.basename(sys.argv[0])} --write"
     machine = f"{os.cpu_count()} processors ({model()}), {memory} GB"
     return (f"`{command}`, {datetime.date.today()}, the best of {times} runs in turn. {machine}, {compiler}, "
-            f"`cargo build --release`. Other work ran beside: the load was {load:.0f} at the end.")
+            f"`cargo build --release`. The load at the end was {load:.0f}, of which the runs made one.")
 
 
 def table(head, rows):
