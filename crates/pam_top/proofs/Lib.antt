@@ -3,7 +3,6 @@ pub mod Examples
 pub mod Matched
 pub mod Place
 pub mod Registers
-pub mod Replies
 pub mod Rows
 pub mod SampleFacts
 pub mod Sums

@@ -4,7 +4,7 @@ use Rattle.aug_monoid.specs.declared.pair64.Pair64.{Pair64}
 use Rattle.map_tool.specs.Effects.{map_after, map_reply}
 use Rattle.map_tool.specs.Registers.{empty_registers}
 use Rattle.map_tool.specs.Values.{range_totals, totals_of}
-use Rattle.pam_top.specs.Replies.{replies}
+use Rattle.script.specs.Replies.{replies}
 use Rattle.pam_top.specs.Sample.{number_at, sample_commands}
 use Rattle.script.specs.Lines.{line_of}
 use Rattle.script.specs.declared.map.How.TheVariants as how

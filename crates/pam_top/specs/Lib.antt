@@ -1,6 +1,5 @@
 pub mod CommandLine
 pub mod Settings
-pub mod Replies
 pub mod Sample
 pub mod Output
 pub mod Answer

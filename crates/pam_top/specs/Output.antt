@@ -2,7 +2,7 @@
 use Rattle.std.specs.Prelude.{◌≡◌, ℕ, List}
 use Rattle.map_tool.specs.Effects.{map_after, map_reply}
 use Rattle.map_tool.specs.Registers.{empty_registers}
-use Rattle.pam_top.specs.Replies.{replies}
+use Rattle.script.specs.Replies.{replies}
 use Rattle.script.specs.declared.map.MapCommand.{MapCommand}
 use Rattle.script.specs.declared.parsed.Parsed.{Parsed}
 use Rattle.script.specs.declared.parsed.Parsed.TheVariants as parsed

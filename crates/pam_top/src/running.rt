@@ -5,7 +5,7 @@ ghost use Rattle.map_tool.specs.Effects.{map_after, map_reply};
 ghost use Rattle.map_tool.specs.Registers.{empty_registers, maps_of};
 ghost use Rattle.script.specs.Registers.{HasRegisters, NamesRegisters};
 ghost use Rattle.pam_top.specs.Output.{IsOutput, map_list};
-ghost use Rattle.pam_top.specs.Replies.{replies};
+ghost use Rattle.script.specs.Replies.{replies};
 
 use aug_monoid::{NoMemory, Steps};
 use fork_join::{Cut, Gate};

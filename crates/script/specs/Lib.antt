@@ -6,4 +6,7 @@ pub mod Fields
 pub mod Map
 pub mod Registers
 pub mod Commands
+pub mod Replies
 pub mod Lines
+pub mod Interval
+pub mod Index

@@ -3,7 +3,7 @@ use Rattle.std.specs.List.{AllByRecursion}
 use Rattle.map_tool.specs.Effects.{map_after, map_reply}
 use Rattle.map_tool.specs.Registers.{maps_of}
 use Rattle.script.specs.Registers.{HasRegisters}
-use Rattle.pam_top.specs.Replies.{replies}
+use Rattle.script.specs.Replies.{replies}
 use Rattle.pam_top.proofs.running.run_all.Given as goal
 
 abbrev pub invariant-loop-command : goal.invariant-loop-command
