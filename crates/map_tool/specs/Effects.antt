@@ -1,5 +1,5 @@
 -- What the commands of the tool map do to the registers, and what they reply.
-use Rattle.std.specs.Prelude.{[], ◌∷◌, ◌++◌, ℕ, List, Option, Some, None, length, codes, if◌then◌else◌}
+use Rattle.std.specs.Prelude.{◌≡◌, [], ◌∷◌, ◌++◌, ℕ, List, Option, Some, None, length, codes, if◌then◌else◌}
 use Rattle.std.specs.Ordering.{nat_cmp}
 use Rattle.map_model.specs.Entries.{above, below, drop_key, lookup, set}
 use Rattle.map_model.specs.Operations.{after, build, dels, puts}
@@ -9,8 +9,7 @@ use Rattle.aug_monoid.specs.declared.totals.Totals.{Totals}
 use Rattle.script.specs.Lines.{line_of}
 use Rattle.script.specs.declared.map.MapCommand.{MapCommand}
 use Rattle.script.specs.declared.map.MapCommand.TheVariants as command
-use Rattle.map_tool.specs.declared.effect.Effect as rust
-use Rattle.map_tool.specs.declared.effect.Effect.TheVariants as variant
+use Rattle.map_tool.specs.declared.change.Change.{Change}
 use Rattle.map_tool.specs.Registers.{Registers, register, with_register}
 use Rattle.map_tool.specs.Values.{entries_of, numbers_of, overlaps, range_totals, resolved_by, totals_of, values_from, values_within}
 
@@ -82,7 +81,13 @@ map_after rs c = registers_after rs (effect rs c)
 abbrev pub map_reply : Registers → MapCommand → List ℕ
 map_reply rs c = reply_of (effect rs c)
 
--- the effect that a value of the program stands for
-abbrev pub seen : rust.Effect → Effect
-seen (variant.Changes d map) = changes d map.entries
-seen (variant.Replies text) = replies text.items
+-- what a command does is this change of a register
+abbrev pub IsChange : Effect → Change → Type 0
+IsChange (changes d m) change = (change.d ≡ d) × (change.map.entries ≡ m)
+IsChange (replies text) change = ⊥
+
+-- it is this change, or none, and then the reply was appended to a text
+abbrev pub IsEffect : Effect → Option Change → List ℕ → List ℕ → Type 0
+IsEffect e (Some change) old new = IsChange e change × (new ≡ old)
+IsEffect (changes d m) None old new = ⊥
+IsEffect (replies line) None old new = new ≡ old ++ line

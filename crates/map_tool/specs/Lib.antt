@@ -1,6 +1,7 @@
 pub mod Registers
 pub mod Values
 pub mod Effects
+pub mod Kinds
 pub mod Bounds
 pub mod Counts
 pub mod Greatest

@@ -1,19 +1,25 @@
 //! Commands that change a register by one call on one map.
-ghost use Rattle.std.specs.Prelude.{◌≡◌, ◌<◌, ◌≤◌, ◌+◌, [], length, IfOk};
+ghost use Rattle.std.specs.Prelude.{◌≡◌, ◌<◌, ◌≤◌, ◌+◌, [], length, IfOk, IfSome};
 ghost use Rattle.std.specs.Ordering.{nat_cmp};
 ghost use Rattle.map_model.specs.Entries.{above, below, drop_key, set};
 ghost use Rattle.map_model.specs.Parts.{slice};
-ghost use Rattle.map_tool.specs.Bounds.{change_steps, height_of};
+ghost use Rattle.map_tool.specs.Bounds.{change_steps, height_of, most_steps};
+ghost use Rattle.map_tool.specs.Effects.{IsChange, effect};
+ghost use Rattle.map_tool.specs.Kinds.{kind_of};
 ghost use Rattle.map_tool.specs.Registers.{maps_of, register};
 ghost use Rattle.map_tool.specs.Values.{values_from};
+ghost use Rattle.map_tool.specs.declared.kind.Kind.TheVariants as kind;
+ghost use Rattle.script.specs.Registers.{HasRegisters};
 
+use crate::change::Change;
 use crate::registers::{Register, map_at};
 use crate::values::AtLeast;
 use aug_monoid::{NoMemory, Share, Steps};
+use script::MapCommand;
 use std::alloc::Global;
 use std::sync::ledger::Ledger;
 
-pub(crate) fn put<C: Ledger>(
+fn put<C: Ledger>(
     alloc: Global,
     registers: &[Register],
     d: u64,
@@ -29,7 +35,7 @@ pub(crate) fn put<C: Ledger>(
     map_at(registers, d).put(alloc, k, v, steps)
 }
 
-pub(crate) fn del<C: Ledger>(
+fn del<C: Ledger>(
     alloc: Global,
     registers: &[Register],
     d: u64,
@@ -44,7 +50,7 @@ pub(crate) fn del<C: Ledger>(
     map_at(registers, d).del(alloc, &k, steps)
 }
 
-pub(crate) fn copy(alloc: Global, registers: &[Register], m: u64) -> Result<Register, NoMemory>
+fn copy(alloc: Global, registers: &[Register], m: u64) -> Result<Register, NoMemory>
     requires count { length registers.now ≡ 16 }
     requires low { m < 16 }
     ensures { IfOk result (λ map. map.entries ≡ register (maps_of registers.now) m) }
@@ -52,7 +58,7 @@ pub(crate) fn copy(alloc: Global, registers: &[Register], m: u64) -> Result<Regi
     map_at(registers, m).share(alloc)
 }
 
-pub(crate) fn below(
+fn below(
     alloc: Global,
     registers: &[Register],
     m: u64,
@@ -65,7 +71,7 @@ pub(crate) fn below(
     map_at(registers, m).below(alloc, &k)
 }
 
-pub(crate) fn above(
+fn above(
     alloc: Global,
     registers: &[Register],
     m: u64,
@@ -78,7 +84,7 @@ pub(crate) fn above(
     map_at(registers, m).above(alloc, &k)
 }
 
-pub(crate) fn slice(
+fn slice(
     alloc: Global,
     registers: &[Register],
     m: u64,
@@ -92,7 +98,7 @@ pub(crate) fn slice(
     map_at(registers, m).slice(alloc, &lo, &hi)
 }
 
-pub(crate) fn at_least(
+fn at_least(
     alloc: Global,
     registers: &[Register],
     m: u64,
@@ -103,4 +109,31 @@ pub(crate) fn at_least(
     ensures { IfOk result (λ map. map.entries ≡ values_from (register (maps_of registers.now) m) least) }
 {
     map_at(registers, m).aug_filter(alloc, &AtLeast { least })
+}
+
+/// What a command changes by one call on one map.
+pub(crate) fn change<C: Ledger>(
+    alloc: Global,
+    registers: &[Register],
+    command: &MapCommand,
+    steps: &mut Steps<C>,
+) -> Result<Change, NoMemory>
+    requires count { length registers.now ≡ 16 }
+    requires low { HasRegisters command.now }
+    requires changes { kind_of command.now ≡ kind.Change }
+    ensures change { IfOk result (IsChange (effect (maps_of registers.now) command.now)) }
+    ensures cost { IfSome (most_steps registers.now command.now) (λ most. steps.new ≤ steps.old + most) }
+{
+    let (d, map) = match command {
+        MapCommand::Put { d, k, v, .. } => (*d, put(alloc, registers, *d, *k, *v, steps)?),
+        MapCommand::Del { d, k, .. } => (*d, del(alloc, registers, *d, *k, steps)?),
+        MapCommand::Copy { d, m, .. } => (*d, copy(alloc, registers, *m)?),
+        MapCommand::Clear { d, .. } => (*d, Register::empty()),
+        MapCommand::Below { d, m, k, .. } => (*d, below(alloc, registers, *m, *k)?),
+        MapCommand::Above { d, m, k, .. } => (*d, above(alloc, registers, *m, *k)?),
+        MapCommand::Slice { d, m, lo, hi, .. } => (*d, slice(alloc, registers, *m, *lo, *hi)?),
+        MapCommand::Atleast { d, m, t, .. } => (*d, at_least(alloc, registers, *m, *t)?),
+        _ => unreachable!(),
+    };
+    Ok(Change { d, map })
 }

@@ -1,23 +1,28 @@
 //! Commands that change a register by a call on whole maps, which may fork.
-ghost use Rattle.std.specs.Prelude.{◌≡◌, ◌<◌, ◌++◌, true, false, length, IfOk, IfSome, IfNone};
+ghost use Rattle.std.specs.Prelude.{◌≡◌, ◌<◌, ◌++◌, true, false, length, IfOk, IfSome, IfNone, MatchResult};
 ghost use Rattle.std.specs.Ordering.{nat_cmp};
 ghost use Rattle.map_model.specs.Operations.{after, build, dels, puts};
 ghost use Rattle.map_model.specs.SetOperations.{difference, intersect, union};
+ghost use Rattle.map_tool.specs.Effects.{IsEffect, effect};
+ghost use Rattle.map_tool.specs.Kinds.{kind_of};
 ghost use Rattle.map_tool.specs.Registers.{maps_of, register};
 ghost use Rattle.map_tool.specs.Values.{entries_of, overlaps, resolved_by, values_within};
+ghost use Rattle.map_tool.specs.declared.kind.Kind.TheVariants as kind;
+ghost use Rattle.script.specs.Registers.{HasRegisters};
 
+use crate::change::Change;
 use crate::entries::entries_of;
 use crate::registers::{Register, map_at};
 use crate::values::{ByHow, Within};
 use aug_monoid::{NoMemory, Pair64, Steps};
 use fork_join::{Cut, Gate};
-use script::How;
+use script::{How, MapCommand, line};
 use std::alloc::Global;
 use std::marker::Sync;
 use std::sync::ledger::Ledger;
 use std::thread::Threads;
 
-pub(crate) fn build<R: Threads + Sync, G: Gate>(
+fn build<R: Threads + Sync, G: Gate>(
     rt: &R,
     alloc: Global,
     gate: &G,
@@ -30,7 +35,7 @@ pub(crate) fn build<R: Threads + Sync, G: Gate>(
     Register::build(rt, alloc, gate, cut, &entries)
 }
 
-pub(crate) fn put_all<R: Threads + Sync, G: Gate>(
+fn put_all<R: Threads + Sync, G: Gate>(
     rt: &R,
     alloc: Global,
     gate: &G,
@@ -47,7 +52,7 @@ pub(crate) fn put_all<R: Threads + Sync, G: Gate>(
     map_at(registers, d).multi_put(rt, alloc, gate, cut, &entries)
 }
 
-pub(crate) fn del_all<R: Threads + Sync, G: Gate>(
+fn del_all<R: Threads + Sync, G: Gate>(
     rt: &R,
     alloc: Global,
     gate: &G,
@@ -63,7 +68,7 @@ pub(crate) fn del_all<R: Threads + Sync, G: Gate>(
     map_at(registers, d).multi_del(rt, alloc, gate, cut, keys)
 }
 
-pub(crate) fn union<R: Threads + Sync, G: Gate>(
+fn union<R: Threads + Sync, G: Gate>(
     rt: &R,
     alloc: Global,
     gate: &G,
@@ -81,7 +86,7 @@ pub(crate) fn union<R: Threads + Sync, G: Gate>(
     map_at(registers, a).union(rt, alloc, gate, cut, other, &ByHow { how })
 }
 
-pub(crate) fn intersect<R: Threads + Sync, G: Gate>(
+fn intersect<R: Threads + Sync, G: Gate>(
     rt: &R,
     alloc: Global,
     gate: &G,
@@ -99,7 +104,7 @@ pub(crate) fn intersect<R: Threads + Sync, G: Gate>(
     map_at(registers, a).intersect(rt, alloc, gate, cut, other, &ByHow { how })
 }
 
-pub(crate) fn difference<R: Threads + Sync, G: Gate>(
+fn difference<R: Threads + Sync, G: Gate>(
     rt: &R,
     alloc: Global,
     gate: &G,
@@ -116,7 +121,7 @@ pub(crate) fn difference<R: Threads + Sync, G: Gate>(
     map_at(registers, a).difference(rt, alloc, gate, cut, other)
 }
 
-pub(crate) fn filter<R: Threads + Sync, G: Gate>(
+fn filter<R: Threads + Sync, G: Gate>(
     rt: &R,
     alloc: Global,
     gate: &G,
@@ -168,7 +173,7 @@ fn overlap(alloc: Global, a: &Register, b: &Register) -> Result<bool, NoMemory>
 }
 
 /// The map of all entries of `a` and `b`, and none where they overlap.
-pub(crate) fn joined<C: Ledger>(
+fn joined<C: Ledger>(
     alloc: Global,
     registers: &[Register],
     a: u64,
@@ -188,4 +193,55 @@ pub(crate) fn joined<C: Ledger>(
     }
     let map = Register::join2(alloc, left, right, steps)?;
     Ok(Some(map))
+}
+
+/// What a command changes by a call on whole maps; nothing where two maps overlap, and then the reply is appended.
+pub(crate) fn combine<R: Threads + Sync, G: Gate, C: Ledger>(
+    rt: &R,
+    alloc: Global,
+    gate: &G,
+    cut: Cut,
+    registers: &[Register],
+    command: &MapCommand,
+    steps: &mut Steps<C>,
+    text: &mut Vec<u8>,
+) -> Result<Option<Change>, NoMemory>
+    requires count { length registers.now ≡ 16 }
+    requires low { HasRegisters command.now }
+    requires combines { kind_of command.now ≡ kind.Combination }
+    ensures effect { MatchResult result (λ change. IsEffect (effect (maps_of registers.now) command.now) change text.old.items text.new.items) (λ _. text.new.items ≡ text.old.items) }
+{
+    let (d, map) = match command {
+        MapCommand::Build { d, pairs, .. } => (*d, build(rt, alloc, gate, cut, pairs.items())?),
+        MapCommand::Mput { d, pairs, .. } => {
+            let map = put_all(rt, alloc, gate, cut, registers, *d, pairs.items())?;
+            (*d, map)
+        }
+        MapCommand::Mdel { d, keys, .. } => {
+            let map = del_all(rt, alloc, gate, cut, registers, *d, keys.items())?;
+            (*d, map)
+        }
+        MapCommand::Union { d, a, b, how, .. } => {
+            (*d, union(rt, alloc, gate, cut, registers, *a, *b, *how)?)
+        }
+        MapCommand::Inter { d, a, b, how, .. } => {
+            let map = intersect(rt, alloc, gate, cut, registers, *a, *b, *how)?;
+            (*d, map)
+        }
+        MapCommand::Diff { d, a, b, .. } => {
+            (*d, difference(rt, alloc, gate, cut, registers, *a, *b)?)
+        }
+        MapCommand::Filter { d, m, lo, hi, .. } => {
+            (*d, filter(rt, alloc, gate, cut, registers, *m, *lo, *hi)?)
+        }
+        MapCommand::Cat { d, a, b, .. } => match joined(alloc, registers, *a, *b, steps)? {
+            Some(map) => (*d, map),
+            None => {
+                line(text, "overlap", &[])?;
+                return Ok(None);
+            }
+        },
+        _ => unreachable!(),
+    };
+    Ok(Some(Change { d, map }))
 }

@@ -1,22 +1,27 @@
-//! One command of the tool map.
-ghost use Rattle.std.specs.Prelude.{◌≡◌, ◌≤◌, ◌+◌, length, IfOk, IfSome, OnErr, OnOk};
+//! Commands of the tool map, one and many.
+ghost use Rattle.std.specs.Prelude.{◌≡◌, ◌≤◌, ◌<◌, ◌+◌, ◌++◌, length, IfOk, IfSome, MatchResult, OnErr, OnOk};
+ghost use Rattle.std.specs.List.{AllByRecursion};
 ghost use Rattle.map_tool.specs.Bounds.{most_steps};
-ghost use Rattle.map_tool.specs.Effects.{effect, map_after, map_reply, seen};
-ghost use Rattle.map_tool.specs.Registers.{maps_of};
+ghost use Rattle.map_tool.specs.Effects.{IsEffect, effect, map_after, map_reply};
+ghost use Rattle.map_tool.specs.Registers.{empty_registers, maps_of};
 ghost use Rattle.script.specs.Registers.{HasRegisters};
+ghost use Rattle.script.specs.Replies.{replies};
 
-use crate::effect::{Effect, reply};
-use crate::registers::{Register, store};
-use crate::{asking, changing, combining};
+use crate::asking::answer;
+use crate::change::Change;
+use crate::changing::change;
+use crate::combining::combine;
+use crate::kind::{Kind, kind_of};
+use crate::registers::{Register, empty_registers, store};
 use aug_monoid::{NoMemory, Steps};
 use fork_join::{Cut, Gate};
 use script::{MapCommand, line};
 use std::alloc::Global;
-use std::marker::Sync;
-use std::sync::ledger::Ledger;
+use std::marker::{Brand, Sync};
+use std::sync::ledger::{Blank, Ledger};
 use std::thread::Threads;
 
-// What a command does.
+// What a command changes; where it changes nothing, its reply is appended.
 fn effect_of<R: Threads + Sync, G: Gate, C: Ledger>(
     rt: &R,
     alloc: Global,
@@ -25,92 +30,50 @@ fn effect_of<R: Threads + Sync, G: Gate, C: Ledger>(
     registers: &[Register],
     command: &MapCommand,
     steps: &mut Steps<C>,
-) -> Result<Effect, NoMemory>
+    text: &mut Vec<u8>,
+) -> Result<Option<Change>, NoMemory>
     requires count { length registers.now ≡ 16 }
     requires low { HasRegisters command.now }
-    ensures effect { IfOk result (λ e. seen e ≡ effect (maps_of registers.now) command.now) }
+    ensures effect { MatchResult result (λ change. IsEffect (effect (maps_of registers.now) command.now) change text.old.items text.new.items) (λ _. text.new.items ≡ text.old.items) }
     ensures cost { IfSome (most_steps registers.now command.now) (λ most. steps.new ≤ steps.old + most) }
 {
-    let (d, map) = match command {
-        MapCommand::Get { m, k, .. } => return asking::get(alloc, registers, *m, *k, steps),
-        MapCommand::Size { m, .. } => return asking::size(alloc, registers, *m),
-        MapCommand::Sum { m, lo, hi, .. } => {
-            return asking::sum(alloc, registers, *m, *lo, *hi, steps);
+    match kind_of(command) {
+        Kind::Question => {
+            answer(rt, alloc, gate, cut, registers, command, steps, text)?;
+            Ok(None)
         }
-        MapCommand::Fold { m, .. } => return asking::fold(alloc, registers, *m),
-        MapCommand::Max { m, lo, hi, .. } => {
-            return asking::greatest(alloc, registers, *m, *lo, *hi);
+        Kind::Change => Ok(Some(change(alloc, registers, command, steps)?)),
+        Kind::Combination => combine(rt, alloc, gate, cut, registers, command, steps, text),
+    }
+}
+
+// Runs one command, and appends its reply. A refusal leaves the registers and the text as they were.
+fn run_command<R: Threads + Sync, G: Gate, C: Ledger>(
+    rt: &R,
+    alloc: Global,
+    gate: &G,
+    cut: Cut,
+    registers: &mut [Register],
+    command: &MapCommand,
+    steps: &mut Steps<C>,
+    text: &mut Vec<u8>,
+) -> Result<(), NoMemory>
+    requires count { length registers.old ≡ 16 }
+    requires low { HasRegisters command.now }
+    ensures reply { MatchResult result (λ _. text.new.items ≡ text.old.items ++ map_reply (maps_of registers.old) command.now) (λ _. text.new.items ≡ text.old.items) }
+    ensures after { OnOk result (maps_of registers.new ≡ map_after (maps_of registers.old) command.now) }
+    ensures refused { OnErr result (registers.new ≡ registers.old) }
+    ensures count { length registers.new ≡ 16 }
+    ensures cost { IfSome (most_steps registers.old command.now) (λ most. steps.new ≤ steps.old + most) }
+{
+    match effect_of(rt, alloc, gate, cut, registers, command, steps, text)? {
+        None => Ok(()),
+        Some(Change { d, map }) => {
+            line(text, "ok", &[map.size()])?;
+            store(registers, d, map);
+            Ok(())
         }
-        MapCommand::Rank { m, k, .. } => return asking::rank(alloc, registers, *m, *k, steps),
-        MapCommand::Select { m, i, .. } => return asking::select(alloc, registers, *m, *i),
-        MapCommand::Next { m, k, .. } => return asking::next(alloc, registers, *m, *k, steps),
-        MapCommand::Prev { m, k, .. } => return asking::prev(alloc, registers, *m, *k, steps),
-        MapCommand::List { m, lo, hi, .. } => {
-            return asking::list(alloc, registers, *m, *lo, *hi);
-        }
-        MapCommand::Count { m, lo, hi, .. } => {
-            let n = combining::count(rt, alloc, gate, cut, registers, *m, *lo, *hi)?;
-            return reply(alloc, "count", &[n]);
-        }
-        MapCommand::Cat { d, a, b, .. } => {
-            match combining::joined(alloc, registers, *a, *b, steps)? {
-                Some(map) => (*d, map),
-                None => return reply(alloc, "overlap", &[]),
-            }
-        }
-        MapCommand::Put { d, k, v, .. } => {
-            (*d, changing::put(alloc, registers, *d, *k, *v, steps)?)
-        }
-        MapCommand::Del { d, k, .. } => (*d, changing::del(alloc, registers, *d, *k, steps)?),
-        MapCommand::Copy { d, m, .. } => (*d, changing::copy(alloc, registers, *m)?),
-        MapCommand::Clear { d, .. } => (*d, Register::empty()),
-        MapCommand::Build { d, pairs, .. } => {
-            (*d, combining::build(rt, alloc, gate, cut, pairs.items())?)
-        }
-        MapCommand::Mput { d, pairs, .. } => {
-            (
-                *d,
-                combining::put_all(rt, alloc, gate, cut, registers, *d, pairs.items())?,
-            )
-        }
-        MapCommand::Mdel { d, keys, .. } => {
-            (
-                *d,
-                combining::del_all(rt, alloc, gate, cut, registers, *d, keys.items())?,
-            )
-        }
-        MapCommand::Union { d, a, b, how, .. } => {
-            (
-                *d,
-                combining::union(rt, alloc, gate, cut, registers, *a, *b, *how)?,
-            )
-        }
-        MapCommand::Inter { d, a, b, how, .. } => {
-            (
-                *d,
-                combining::intersect(rt, alloc, gate, cut, registers, *a, *b, *how)?,
-            )
-        }
-        MapCommand::Diff { d, a, b, .. } => {
-            (
-                *d,
-                combining::difference(rt, alloc, gate, cut, registers, *a, *b)?,
-            )
-        }
-        MapCommand::Below { d, m, k, .. } => (*d, changing::below(alloc, registers, *m, *k)?),
-        MapCommand::Above { d, m, k, .. } => (*d, changing::above(alloc, registers, *m, *k)?),
-        MapCommand::Slice { d, m, lo, hi, .. } => {
-            (*d, changing::slice(alloc, registers, *m, *lo, *hi)?)
-        }
-        MapCommand::Atleast { d, m, t, .. } => (*d, changing::at_least(alloc, registers, *m, *t)?),
-        MapCommand::Filter { d, m, lo, hi, .. } => {
-            (
-                *d,
-                combining::filter(rt, alloc, gate, cut, registers, *m, *lo, *hi)?,
-            )
-        }
-    };
-    Ok(Effect::Changes { d, map })
+    }
 }
 
 /// Runs one command of the tool map on sixteen registers, and answers its reply. `get` takes at most the steps of a look-up in its
@@ -133,13 +96,67 @@ pub fn map_command<R: Threads + Sync, G: Gate, C: Ledger>(
     ensures count { length registers.new ≡ 16 }
     ensures cost { IfSome (most_steps registers.old command.now) (λ most. steps.new ≤ steps.old + most) }
 {
-    match effect_of(rt, alloc, gate, cut, registers, command, steps)? {
-        Effect::Replies { text } => Ok(text),
-        Effect::Changes { d, map } => {
-            let mut text = Vec::new(alloc);
-            line(&mut text, "ok", &[map.size()])?;
-            store(registers, d, map);
-            Ok(text)
-        }
+    let mut text = Vec::new(alloc);
+    run_command(
+        rt, alloc, gate, cut, registers, command, steps, &mut text,
+    )?;
+    Ok(text)
+}
+
+// Runs commands in order, and appends their replies to one text.
+fn run_all<R: Threads + Sync, G: Gate, C: Ledger>(
+    rt: &R,
+    alloc: Global,
+    gate: &G,
+    cut: Cut,
+    registers: &mut [Register],
+    commands: &[MapCommand],
+    steps: &mut Steps<C>,
+) -> Result<Vec<u8>, NoMemory>
+    requires count { length registers.old ≡ 16 }
+    requires low { AllByRecursion HasRegisters commands.now }
+    ensures { IfOk result (λ text. text.items ≡ replies map_reply map_after (maps_of registers.old) commands.now) }
+{
+    let mut text = Vec::new(alloc);
+    for command in commands {
+        run_command(
+            rt, alloc, gate, cut, registers, command, steps, &mut text,
+        )?;
     }
+    Ok(text)
+}
+
+// Runs commands on empty registers, and counts no steps.
+fn run_counted<R: Threads + Sync, G: Gate, C: Ledger>(
+    rt: &R,
+    alloc: Global,
+    gate: &G,
+    cut: Cut,
+    commands: &[MapCommand],
+    blank: Blank,
+) -> Result<Vec<u8>, NoMemory>
+    requires low { AllByRecursion HasRegisters commands.now }
+    requires name { blank.name ≡ C.name }
+    requires parts { blank.parts ≡ C.parts }
+    requires some { 0 < blank.parts }
+    ensures { IfOk result (λ text. text.items ≡ replies map_reply map_after empty_registers commands.now) }
+{
+    let mut registers = empty_registers(alloc)?;
+    let mut steps = Steps::<C>::start(blank);
+    run_all(rt, alloc, gate, cut, &mut registers, commands, &mut steps)
+}
+
+/// The replies to commands of the tool map, run in order from empty registers. They depend neither on the runtime nor on the gate
+/// nor on the cut.
+pub fn run_map<R: Threads + Sync, G: Gate>(
+    rt: &R,
+    alloc: Global,
+    gate: &G,
+    cut: Cut,
+    commands: &[MapCommand],
+) -> Result<Vec<u8>, NoMemory>
+    requires { AllByRecursion HasRegisters commands.now }
+    ensures { IfOk result (λ text. text.items ≡ replies map_reply map_after empty_registers commands.now) }
+{
+    run_counted::<R, G, Brand>(rt, alloc, gate, cut, commands, Blank::new(1))
 }

@@ -2,13 +2,14 @@
 #![tactic(auto)]
 
 mod asking;
+mod change;
 mod changing;
 mod combining;
 mod command;
-mod effect;
 mod entries;
+mod kind;
 mod registers;
 mod values;
 
-pub use command::map_command;
+pub use command::{map_command, run_map};
 pub use registers::{Register, empty_registers};

@@ -7,9 +7,5 @@ use Rattle.script.specs.declared.map.MapCommand.{MapCommand}
 use Rattle.script.specs.declared.parsed.Parsed.{Parsed}
 use Rattle.script.specs.declared.parsed.Parsed.TheVariants as parsed
 
--- the commands of the tool map
-abbrev pub map_list : Parsed → List MapCommand
-map_list (parsed.Map commands) = commands
-
 abbrev pub IsOutput : Parsed → List ℕ → Type 0
 IsOutput (parsed.Map commands) text = text ≡ replies map_reply map_after empty_registers commands

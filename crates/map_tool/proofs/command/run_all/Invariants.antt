@@ -4,7 +4,7 @@ use Rattle.map_tool.specs.Effects.{map_after, map_reply}
 use Rattle.map_tool.specs.Registers.{maps_of}
 use Rattle.script.specs.Registers.{HasRegisters}
 use Rattle.script.specs.Replies.{replies}
-use Rattle.pam_top.proofs.running.run_all.Given as goal
+use Rattle.map_tool.proofs.command.run_all.Given as goal
 
 abbrev pub invariant-loop-command : goal.invariant-loop-command
 invariant-loop-command g l = record {
