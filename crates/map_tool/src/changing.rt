@@ -58,12 +58,7 @@ fn copy(alloc: Global, registers: &[Register], m: u64) -> Result<Register, NoMem
     map_at(registers, m).share(alloc)
 }
 
-fn below(
-    alloc: Global,
-    registers: &[Register],
-    m: u64,
-    k: u64,
-) -> Result<Register, NoMemory>
+fn below(alloc: Global, registers: &[Register], m: u64, k: u64) -> Result<Register, NoMemory>
     requires count { length registers.now ≡ 16 }
     requires low { m < 16 }
     ensures { IfOk result (λ map. map.entries ≡ below nat_cmp (register (maps_of registers.now) m) k) }
@@ -71,12 +66,7 @@ fn below(
     map_at(registers, m).below(alloc, &k)
 }
 
-fn above(
-    alloc: Global,
-    registers: &[Register],
-    m: u64,
-    k: u64,
-) -> Result<Register, NoMemory>
+fn above(alloc: Global, registers: &[Register], m: u64, k: u64) -> Result<Register, NoMemory>
     requires count { length registers.now ≡ 16 }
     requires low { m < 16 }
     ensures { IfOk result (λ map. map.entries ≡ above nat_cmp (register (maps_of registers.now) m) k) }
@@ -98,12 +88,7 @@ fn slice(
     map_at(registers, m).slice(alloc, &lo, &hi)
 }
 
-fn at_least(
-    alloc: Global,
-    registers: &[Register],
-    m: u64,
-    least: u64,
-) -> Result<Register, NoMemory>
+fn at_least(alloc: Global, registers: &[Register], m: u64, least: u64) -> Result<Register, NoMemory>
     requires count { length registers.now ≡ 16 }
     requires low { m < 16 }
     ensures { IfOk result (λ map. map.entries ≡ values_from (register (maps_of registers.now) m) least) }

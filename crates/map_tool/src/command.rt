@@ -97,9 +97,7 @@ pub fn map_command<R: Threads + Sync, G: Gate, C: Ledger>(
     ensures cost { IfSome (most_steps registers.old command.now) (λ most. steps.new ≤ steps.old + most) }
 {
     let mut text = Vec::new(alloc);
-    run_command(
-        rt, alloc, gate, cut, registers, command, steps, &mut text,
-    )?;
+    run_command(rt, alloc, gate, cut, registers, command, steps, &mut text)?;
     Ok(text)
 }
 
@@ -119,9 +117,7 @@ fn run_all<R: Threads + Sync, G: Gate, C: Ledger>(
 {
     let mut text = Vec::new(alloc);
     for command in commands {
-        run_command(
-            rt, alloc, gate, cut, registers, command, steps, &mut text,
-        )?;
+        run_command(rt, alloc, gate, cut, registers, command, steps, &mut text)?;
     }
     Ok(text)
 }
