@@ -5,7 +5,9 @@ ghost use Rattle.interval_tool.specs.Effects.{interval_after, interval_reply};
 ghost use Rattle.script.specs.Interval.{HasEnds};
 ghost use Rattle.script.specs.Replies.{replies};
 
+use crate::command::run_command;
 use aug_monoid::NoMemory;
+use interval_map::Intervals;
 use script::IntervalCommand;
 use std::alloc::Global;
 
@@ -14,7 +16,10 @@ pub fn run_intervals(alloc: Global, commands: &[IntervalCommand]) -> Result<Vec<
     requires { AllByRecursion HasEnds commands.now }
     ensures { IfOk result (λ text. text.items ≡ replies interval_reply interval_after [] commands.now) }
 {
-    let _memory = alloc;
-    let _count = commands.len();
-    Err(NoMemory)
+    let mut intervals = Intervals::new();
+    let mut text = Vec::new(alloc);
+    for command in commands {
+        run_command(alloc, &mut intervals, command, &mut text)?;
+    }
+    Ok(text)
 }
