@@ -1,13 +1,6 @@
-// A library with one function.
+//! The tool points: what its commands do to points in the plane.
 #![tactic(auto)]
 
-ghost use Rattle.std.specs.Prelude.{◌≡◌};
-ghost use Rattle.points_tool.specs.Echo.{echo_of};
+mod running;
 
-// The `ensures` clause is the contract: what `echo` returns is `echo_of` of its argument, a definition
-// in `specs/Echo.antt`, which a caller's clause can cite too.
-pub fn echo(x: usize) -> usize
-    ensures { result ≡ echo_of x }
-{
-    x
-}
+pub use running::run_points;
