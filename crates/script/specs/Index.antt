@@ -1,7 +1,7 @@
 -- What the commands of the tool index that are read from records have.
 use Rattle.std.specs.Prelude.{◌≡◌, ◌≤◌, ℕ, [], ◌∷◌, List, Bool, true, false, length}
 use Rattle.std.specs.List.{AllByRecursion, list_all}
-use Rattle.core.specs.Char.{is_ascii_alphanumeric}
+use Rattle.std.specs.Char.{is_ascii_alphanumeric}
 use Rattle.script.specs.declared.index.IndexCommand.{IndexCommand}
 use Rattle.script.specs.declared.index.IndexCommand.TheVariants as command
 
