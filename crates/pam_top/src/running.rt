@@ -3,13 +3,18 @@ ghost use Rattle.std.specs.Prelude.{◌≡◌, ◌++◌, ◌<◌, IfOk, OnOk, le
 ghost use Rattle.std.specs.List.{AllByRecursion};
 ghost use Rattle.map_tool.specs.Effects.{map_after, map_reply};
 ghost use Rattle.map_tool.specs.Registers.{empty_registers, maps_of};
-ghost use Rattle.script.specs.Registers.{HasRegisters, NamesRegisters};
-ghost use Rattle.pam_top.specs.Output.{IsOutput, map_list};
+ghost use Rattle.script.specs.Lawful.{IsLawful};
+ghost use Rattle.script.specs.Registers.{HasRegisters};
+ghost use Rattle.pam_top.specs.Output.{IsOutput};
 ghost use Rattle.script.specs.Replies.{replies};
 
 use aug_monoid::{NoMemory, Steps};
 use fork_join::{Cut, Gate};
+use graph_tool::run_graph;
+use index_tool::run_index;
+use interval_tool::run_intervals;
 use map_tool::{Register, empty_registers, map_command};
+use points_tool::run_points;
 use script::{MapCommand, Parsed};
 use std::alloc::Global;
 use std::marker::{Brand, Sync};
@@ -58,14 +63,6 @@ fn run_map<R: Threads + Sync, G: Gate, C: Ledger>(
     run_all(rt, alloc, gate, cut, &mut registers, commands, &mut steps)
 }
 
-fn map_list(commands: &Parsed) -> &[MapCommand]
-    ensures { result.now ≡ map_list commands.now }
-{
-    match commands {
-        Parsed::Map(list) => list.items(),
-    }
-}
-
 /// The replies to the commands of an input, which depend neither on the runtime nor on the gate nor on the cut.
 pub fn run_plain<R: Threads + Sync, G: Gate>(
     rt: &R,
@@ -74,8 +71,16 @@ pub fn run_plain<R: Threads + Sync, G: Gate>(
     cut: Cut,
     commands: &Parsed,
 ) -> Result<Vec<u8>, NoMemory>
-    requires { NamesRegisters commands.now }
+    requires { IsLawful commands.now }
     ensures { IfOk result (λ text. IsOutput commands.now text.items) }
 {
-    run_map::<R, G, Brand>(rt, alloc, gate, cut, map_list(commands), Blank::new(1))
+    match commands {
+        Parsed::Map(list) => {
+            run_map::<R, G, Brand>(rt, alloc, gate, cut, list.items(), Blank::new(1))
+        }
+        Parsed::Interval(list) => run_intervals(alloc, list.items()),
+        Parsed::Points(list) => run_points(rt, alloc, gate, cut, list.items()),
+        Parsed::Index(list) => run_index(rt, alloc, gate, cut, list.items()),
+        Parsed::Graph(list) => run_graph(rt, alloc, gate, cut, list.items()),
+    }
 }
