@@ -1,5 +1,5 @@
 -- The terms that are read are lawful, and as many as the fields.
-use Rattle.std.proofs.Common.{◌≡◌, ◌≤◌, ◌-◌, ◌==◌, ℕ, suc, List, [], ◌∷◌, Result, Ok, IfOk, Bool, true, inl, inr, nat_le, codes, drop, length, ap, refl, arith}
+use Rattle.std.proofs.Common.{◌≡◌, ◌≤◌, ◌==◌, ℕ, suc, List, [], ◌∷◌, Result, Ok, Err, IfOk, inl, inr, nat_le, codes, drop, length, ap, refl, arith}
 use Rattle.std.specs.List.{AllByRecursion}
 use Rattle.std.proofs.lemmas.Bool.{cases_Bool, eqb-true, leb-true}
 use Rattle.std.proofs.lemmas.List.{length-drop}
@@ -18,7 +18,7 @@ use Rattle.script.specs.declared.index.IndexCommand.{IndexCommand}
 lawful_term : (bytes : List ℕ) → IfOk (term_of bytes) IsTerm
 lawful_term bytes = elim (cases_Bool (is_term bytes)) [
   | inl is ↦ rw is is
-  | inr no ↦ rw no tt
+  | inr other ↦ rw other tt
 ]
 
 -- the terms of some fields
@@ -30,7 +30,7 @@ unfolding terms_of
 lawful_terms [] = (refl, tt)
 lawful_terms (f ∷ fs) =
     ok_then IsTerm (TermsOf (length (f ∷ fs))) (term_of f) _ (lawful_term f)
-    (λ t is. ok_then (TermsOf (length fs)) (TermsOf (length (f ∷ fs))) (terms_of fs) _ (lawful_terms fs) (λ ts all. (ap suc all.0, is, all.1)))
+    (λ t is. ok_then (TermsOf (length fs)) (TermsOf (length (f ∷ fs))) (terms_of fs) _ (lawful_terms fs) (λ ts all. (ap suc all.0, (is, all.1))))
 
 abbrev SomeTerms : List (List ℕ) → Type 0
 SomeTerms terms = (1 ≤ length terms) × AllByRecursion IsTerm terms

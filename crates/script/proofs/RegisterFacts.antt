@@ -1,5 +1,5 @@
 -- The commands that are read name registers from 0 to 15.
-use Rattle.std.proofs.Common.{◌+◌, ◌<◌, ◌==◌, ◌%◌, ℕ, List, [], ◌∷◌, Option, Some, None, Result, Ok, Err, IfOk, Bool, cond, inl, inr, length, drop, nat_le, nat_lt, codes}
+use Rattle.std.proofs.Common.{◌<◌, ◌==◌, ◌%◌, ℕ, List, Option, Some, None, Result, IfOk, inl, inr, length, drop, nat_le, nat_lt, codes}
 use Rattle.std.specs.List.{AllByRecursion}
 use Rattle.std.proofs.lemmas.Bool.{cases_Bool, ltb-true}
 use Rattle.aug_monoid.specs.declared.pair64.Pair64.{Pair64}

@@ -1,5 +1,5 @@
 -- The fields of a record, each lawful or with its code, from left to right.
-use Rattle.std.specs.Prelude.{◌==◌, ◌%◌, ◌∷◌, ℕ, List, [], codes, drop, length, Result, Ok, Err, Option, Some, None, slice_index_or, nat_le, nat_lt, if◌then◌else◌}
+use Rattle.std.specs.Prelude.{◌∷◌, ℕ, List, [], codes, Result, Ok, Err, Option, Some, None, slice_index_or, nat_lt, if◌then◌else◌}
 use Rattle.std.specs.Str.{bytes_eq}
 use Rattle.aug_monoid.specs.declared.pair64.Pair64.{Pair64}
 use Rattle.script.specs.Numbers.{number_of}

@@ -85,7 +85,8 @@ pub(crate) fn pair_at(row: &ByteRecord, place: usize) -> Result<Pair64, Code>
 /// The point and its weight at a place and the next two.
 pub(crate) fn point_at(row: &ByteRecord, place: usize) -> Result<Weighed, Code>
     requires { place + 1 < length (fields_of row.now) }
-    ensures { result ≡ point_of (field (fields_of row.now) place) (field (fields_of row.now) (place + 1)) (field (fields_of row.now) (place + 2)) }
+    ensures { let fields = fields_of row.now in
+        result ≡ point_of (field fields place) (field fields (place + 1)) (field fields (place + 2)) }
 {
     let _size = row.len();
     let x = number_at(row, place)?;

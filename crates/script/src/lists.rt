@@ -55,10 +55,7 @@ pub(crate) fn points_from(alloc: Global, row: &ByteRecord) -> Result<Items<Weigh
 }
 
 /// The terms from the second field on.
-pub(crate) fn terms_from(
-    alloc: Global,
-    row: &ByteRecord,
-) -> Result<Items<Items<u8>>, RecordFault>
+pub(crate) fn terms_from(alloc: Global, row: &ByteRecord) -> Result<Items<Items<u8>>, RecordFault>
     requires { 1 ≤ length (fields_of row.now) }
     ensures { GivesCode result (terms_of (drop 1 (fields_of row.now))) }
 {

@@ -28,10 +28,22 @@ impl Command for PointsCommand {
             Ok(PointsCommand::Size { place })
         } else if verb == b"sum".as_slice() {
             let (x1, x2, y1, y2) = four_numbers(row)?;
-            Ok(PointsCommand::Sum { place, x1, x2, y1, y2 })
+            Ok(PointsCommand::Sum {
+                place,
+                x1,
+                x2,
+                y1,
+                y2,
+            })
         } else if verb == b"list".as_slice() {
             let (x1, x2, y1, y2) = four_numbers(row)?;
-            Ok(PointsCommand::List { place, x1, x2, y1, y2 })
+            Ok(PointsCommand::List {
+                place,
+                x1,
+                x2,
+                y1,
+                y2,
+            })
         } else {
             Err(RecordFault::Bad(Code::Verb))
         }

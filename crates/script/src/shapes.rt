@@ -218,10 +218,7 @@ pub(crate) fn some_points(alloc: Global, row: &ByteRecord) -> Result<Items<Weigh
 }
 
 /// The fields of a verb and at least one term.
-pub(crate) fn some_terms(
-    alloc: Global,
-    row: &ByteRecord,
-) -> Result<Items<Items<u8>>, RecordFault>
+pub(crate) fn some_terms(alloc: Global, row: &ByteRecord) -> Result<Items<Items<u8>>, RecordFault>
     ensures { GivesCode result (shape.some_terms (fields_of row.now)) }
 {
     if row.len() < 2 {
@@ -231,10 +228,7 @@ pub(crate) fn some_terms(
 }
 
 /// The fields of a verb and two terms.
-pub(crate) fn two_terms(
-    alloc: Global,
-    row: &ByteRecord,
-) -> Result<Items<Items<u8>>, RecordFault>
+pub(crate) fn two_terms(alloc: Global, row: &ByteRecord) -> Result<Items<Items<u8>>, RecordFault>
     ensures { GivesCode result (shape.two_terms (fields_of row.now)) }
 {
     if row.len() != 3 {
@@ -244,10 +238,7 @@ pub(crate) fn two_terms(
 }
 
 /// The fields of a verb, a number and a term.
-pub(crate) fn number_term(
-    alloc: Global,
-    row: &ByteRecord,
-) -> Result<(u64, Items<u8>), RecordFault>
+pub(crate) fn number_term(alloc: Global, row: &ByteRecord) -> Result<(u64, Items<u8>), RecordFault>
     ensures { GivesCode result (shape.number_term (fields_of row.now)) }
 {
     if row.len() != 3 {
@@ -259,10 +250,7 @@ pub(crate) fn number_term(
 }
 
 /// The fields of a verb, a number and a text.
-pub(crate) fn number_text(
-    alloc: Global,
-    row: &ByteRecord,
-) -> Result<(u64, Items<u8>), RecordFault>
+pub(crate) fn number_text(alloc: Global, row: &ByteRecord) -> Result<(u64, Items<u8>), RecordFault>
     ensures { GivesCode result (shape.number_text (fields_of row.now)) }
 {
     if row.len() != 3 {

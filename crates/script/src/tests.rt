@@ -68,7 +68,10 @@ fn the_first_bad_record_of_the_tool_map(rt: HostRuntime) -> Result<(), Fail> {
     ];
     for (input, place, code) in rows {
         let bad = BadRecord { place, code };
-        assert_eq!(rt; read(rt.alloc(), Tool::Map, input), Err(ScriptFault::Bad(bad)));
+        assert_eq!(rt;
+            read(rt.alloc(), Tool::Map, input),
+            Err(ScriptFault::Bad(bad))
+        );
     }
     Ok(())
 }
