@@ -12,8 +12,8 @@ abbrev unlawful_words : List (List Text)
 unlawful_words =
     -- no words
     [] ∷
-    -- a tool that is not built
-    (codes "interval" ∷ []) ∷
+    -- another spelling of a tool
+    (codes "Interval" ∷ []) ∷
     -- an unknown tool
     (codes "frob" ∷ []) ∷
     -- help
@@ -77,7 +77,11 @@ lawful_words =
     (codes "--workers" ∷ codes "1" ∷ codes "--grain" ∷ codes "1" ∷ codes "--seed" ∷ codes "0" ∷ codes "--size" ∷ codes "1" ∷ codes "map" ∷ []) ∷
     -- each greatest value
     (codes "--workers" ∷ codes "64" ∷ codes "--grain" ∷ codes "4294967296" ∷ codes "--seed" ∷ codes "18446744073709551615" ∷ codes "--size" ∷ codes "1000000" ∷ codes "map" ∷ []) ∷
-    -- the other tool
+    -- the other tools
+    (codes "interval" ∷ []) ∷
+    (codes "points" ∷ []) ∷
+    (codes "index" ∷ []) ∷
+    (codes "graph" ∷ []) ∷
     (codes "--seed" ∷ codes "0" ∷ codes "--size" ∷ codes "1" ∷ codes "sample" ∷ []) ∷
     []
 
@@ -93,6 +97,10 @@ lawful : map settings_of lawful_words ≡
     tool_with tool.Map 4 1024 1 100000 ∷
     tool_with tool.Map 1 1 0 1 ∷
     tool_with tool.Map 64 4294967296 18446744073709551615 1000000 ∷
+    tool_with tool.Interval 4 1024 1 100000 ∷
+    tool_with tool.Points 4 1024 1 100000 ∷
+    tool_with tool.Index 4 1024 1 100000 ∷
+    tool_with tool.Graph 4 1024 1 100000 ∷
     tool_with tool.Sample 4 1024 0 1 ∷
     []
 unfolding matches_on pam_command clap_on_literals settings_of

@@ -6,3 +6,4 @@ pub mod Registers
 pub mod Rows
 pub mod SampleFacts
 pub mod Sums
+pub mod ToolRows

@@ -14,10 +14,10 @@ use Rattle.script.specs.declared.map.MapCommand.TheVariants as command
 abbrev text_of : List MapCommand → List ℕ
 text_of commands = replies map_reply map_after empty_registers commands
 
-abbrev lines : List (List ℕ × List ℕ) → List ℕ
+abbrev pub lines : List (List ℕ × List ℕ) → List ℕ
 lines texts = flat_map (λ t. line_of t.0 t.1) texts
 
-abbrev pair : ℕ → ℕ → Pair64
+abbrev pub pair : ℕ → ℕ → Pair64
 pair key val = record { first = key; second = val }
 
 -- unions, an intersection, differences, and maps that overlap

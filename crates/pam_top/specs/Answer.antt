@@ -1,5 +1,5 @@
 -- What the program answers to its words and its input.
-use Rattle.std.specs.Prelude.{◌≡◌, ◌⊎◌, ◌<◌, ◌≤◌, [], ℕ, Bool, true, false, List, None, IsSomeAnd, IsOkAnd, IsErrAnd, Ok, Result, length}
+use Rattle.std.specs.Prelude.{◌≡◌, ◌⊎◌, ◌<◌, ◌≤◌, [], ℕ, Bool, true, false, List, None, IsSomeAnd, IsOkAnd, IsErrAnd, Ok, Result, MatchBool, length, if◌then◌else◌}
 use Rattle.script.specs.Commands.{commands_of}
 use Rattle.script.specs.Lines.{IsPrefix, error_line_of}
 use Rattle.script.specs.declared.fault.BadRecord.{BadRecord}
@@ -21,26 +21,29 @@ input_limit = 67108864
 -- whether a tool reads its input
 abbrev pub reads_input : Tool → Bool
 reads_input tool.Map = true
+reads_input tool.Interval = true
+reads_input tool.Points = true
+reads_input tool.Index = true
+reads_input tool.Graph = true
 reads_input tool.Sample = false
 
 -- a whole input of a tool that is not too large: nothing, for a tool that reads none
 abbrev pub IsInput : Tool → List ℕ → Type 0
-IsInput tool.Map bytes = length bytes ≤ input_limit
-IsInput tool.Sample bytes = bytes ≡ []
+IsInput tool bytes = MatchBool (reads_input tool) (length bytes ≤ input_limit) (bytes ≡ [])
 
 abbrev pub IsTooLarge : Tool → List ℕ → Type 0
-IsTooLarge tool.Map bytes = input_limit < length bytes
-IsTooLarge tool.Sample bytes = ⊥
+IsTooLarge tool bytes = (reads_input tool ≡ true) × (input_limit < length bytes)
 
 -- the commands that the settings and the input ask for
-abbrev pub asked_by : Tool → Settings → List ℕ → Result Parsed BadRecord
-asked_by tool.Map settings bytes = commands_of tool.Map bytes
-asked_by tool.Sample settings bytes = Ok (parsed.Map (sample_commands settings.seed settings.size))
+abbrev pub asked_by : Settings → List ℕ → Result Parsed BadRecord
+asked_by settings bytes =
+    if reads_input settings.tool then commands_of settings.tool bytes
+    else Ok (parsed.Map (sample_commands settings.seed settings.size))
 
 -- the answer of a tool to a whole input that is not too large
 abbrev pub ToolAnswer : Settings → List ℕ → Status → List ℕ → Type 0
-ToolAnswer settings bytes status.Ok text = IsOkAnd (asked_by settings.tool settings bytes) (λ commands. IsOutput commands text)
-ToolAnswer settings bytes status.BadRecord text = IsErrAnd (asked_by settings.tool settings bytes) (λ bad. text ≡ error_line_of bad)
+ToolAnswer settings bytes status.Ok text = IsOkAnd (asked_by settings bytes) (λ commands. IsOutput commands text)
+ToolAnswer settings bytes status.BadRecord text = IsErrAnd (asked_by settings bytes) (λ bad. text ≡ error_line_of bad)
 ToolAnswer settings bytes status.Usage text = ⊥
 ToolAnswer settings bytes status.TooLarge text = ⊥
 ToolAnswer settings bytes status.ReadFault text = ⊥

@@ -1,11 +1,19 @@
 -- The texts that the commands of an input may make, tool by tool.
-use Rattle.std.specs.Prelude.{◌≡◌, ℕ, List}
+use Rattle.std.specs.Prelude.{◌≡◌, ℕ, List, []}
+use Rattle.graph_tool.specs.Effects.{graph_after, graph_reply, no_graphs}
+use Rattle.index_tool.specs.Effects.{index_after, index_reply}
+use Rattle.interval_tool.specs.Effects.{interval_after, interval_reply}
 use Rattle.map_tool.specs.Effects.{map_after, map_reply}
 use Rattle.map_tool.specs.Registers.{empty_registers}
+use Rattle.points_tool.specs.Effects.{points_after, points_reply}
 use Rattle.script.specs.Replies.{replies}
-use Rattle.script.specs.declared.map.MapCommand.{MapCommand}
 use Rattle.script.specs.declared.parsed.Parsed.{Parsed}
 use Rattle.script.specs.declared.parsed.Parsed.TheVariants as parsed
 
+-- each tool begins with nothing
 abbrev pub IsOutput : Parsed → List ℕ → Type 0
 IsOutput (parsed.Map commands) text = text ≡ replies map_reply map_after empty_registers commands
+IsOutput (parsed.Interval commands) text = text ≡ replies interval_reply interval_after [] commands
+IsOutput (parsed.Points commands) text = text ≡ replies points_reply points_after [] commands
+IsOutput (parsed.Index commands) text = text ≡ replies index_reply index_after [] commands
+IsOutput (parsed.Graph commands) text = text ≡ replies graph_reply graph_after no_graphs commands

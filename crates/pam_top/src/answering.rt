@@ -1,16 +1,17 @@
 //! The answer to an input that was read whole.
 ghost use Rattle.std.specs.Prelude.{IfOk};
-ghost use Rattle.script.specs.Registers.{NamesRegisters};
+ghost use Rattle.script.specs.Lawful.{IsLawful};
 ghost use Rattle.script.specs.Results.{Gives};
 ghost use Rattle.pam_top.specs.Answer.{ToolAnswer, asked_by};
 ghost use Rattle.pam_top.specs.Settings.{IsInRange};
 
+use crate::reading::reads_input;
 use crate::sample::sample_commands;
 use crate::settings::Settings;
 use crate::{Status, run_plain};
 use aug_monoid::NoMemory;
 use fork_join::{Cut, Gate};
-use script::{Parsed, ScriptFault, Tool, commands, error_line};
+use script::{Parsed, ScriptFault, commands, error_line};
 use std::alloc::Global;
 use std::marker::Sync;
 use std::thread::Threads;
@@ -25,12 +26,13 @@ pub(crate) struct Reply {
 // The commands that the settings and the input ask for, or the first bad record.
 fn asked(alloc: Global, settings: &Settings, bytes: &[u8]) -> Result<Parsed, ScriptFault>
     requires { IsInRange settings.now }
-    ensures exact { Gives result (asked_by settings.now.tool settings.now bytes.now) }
-    ensures registers { IfOk result NamesRegisters }
+    ensures exact { Gives result (asked_by settings.now bytes.now) }
+    ensures lawful { IfOk result IsLawful }
 {
-    match settings.tool {
-        Tool::Map => commands(alloc, Tool::Map, bytes),
-        Tool::Sample => Ok(sample_commands(alloc, settings.seed, settings.size)?),
+    if reads_input(settings.tool) {
+        commands(alloc, settings.tool, bytes)
+    } else {
+        Ok(sample_commands(alloc, settings.seed, settings.size)?)
     }
 }
 

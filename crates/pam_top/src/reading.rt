@@ -58,6 +58,13 @@ fn read_input<S: Source>(alloc: Global, source: &mut S) -> Result<Vec<u8>, Stop>
     Err(Stop::TooLarge)
 }
 
+/// Whether a tool reads its input.
+pub(crate) fn reads_input(tool: Tool) -> bool
+    ensures { result ≡ reads_input tool }
+{
+    !matches!(tool, Tool::Sample)
+}
+
 /// The whole input of a tool, which is nothing for a tool that reads none.
 pub(crate) fn input_of<S: Source>(
     alloc: Global,
@@ -71,8 +78,9 @@ pub(crate) fn input_of<S: Source>(
     ensures end { OnOk result (reads_input tool ≡ true → (S.ended source.new ≡ true) × IsAtEnd (S.left source.new)) }
     ensures cause { IfErr result (λ e. e ≡ stop.Fault → Rose (S.faults source.old) (S.faults source.new)) }
 {
-    match tool {
-        Tool::Map => read_input(alloc, source),
-        Tool::Sample => Ok(Vec::new(alloc)),
+    if reads_input(tool) {
+        read_input(alloc, source)
+    } else {
+        Ok(Vec::new(alloc))
     }
 }

@@ -1,11 +1,15 @@
 //! Runs the commands of an input.
 ghost use Rattle.std.specs.Prelude.{IfOk};
-ghost use Rattle.script.specs.Registers.{NamesRegisters};
+ghost use Rattle.script.specs.Lawful.{IsLawful};
 ghost use Rattle.pam_top.specs.Output.{IsOutput};
 
 use aug_monoid::NoMemory;
 use fork_join::{Cut, Gate};
+use graph_tool::run_graph;
+use index_tool::run_index;
+use interval_tool::run_intervals;
 use map_tool::run_map;
+use points_tool::run_points;
 use script::Parsed;
 use std::alloc::Global;
 use std::marker::Sync;
@@ -19,10 +23,14 @@ pub fn run_plain<R: Threads + Sync, G: Gate>(
     cut: Cut,
     commands: &Parsed,
 ) -> Result<Vec<u8>, NoMemory>
-    requires { NamesRegisters commands.now }
+    requires { IsLawful commands.now }
     ensures { IfOk result (λ text. IsOutput commands.now text.items) }
 {
     match commands {
         Parsed::Map(list) => run_map(rt, alloc, gate, cut, list.items()),
+        Parsed::Interval(list) => run_intervals(alloc, list.items()),
+        Parsed::Points(list) => run_points(rt, alloc, gate, cut, list.items()),
+        Parsed::Index(list) => run_index(rt, alloc, gate, cut, list.items()),
+        Parsed::Graph(list) => run_graph(rt, alloc, gate, cut, list.items()),
     }
 }

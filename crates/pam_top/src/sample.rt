@@ -1,7 +1,7 @@
 //! The commands of the tool sample.
 ghost use Rattle.std.specs.Prelude.{◌≡◌, ◌+◌, ◌*◌, ◌≤◌, IfOk, OnOk};
 ghost use Rattle.pam_top.specs.Sample.{commands_over, next_number, number_at, pair_at, sample_commands, sample_pairs};
-ghost use Rattle.script.specs.Registers.{NamesRegisters};
+ghost use Rattle.script.specs.Lawful.{IsLawful};
 ghost use Rattle.script.specs.declared.parsed.Parsed.TheVariants as parsed;
 
 use aug_monoid::{NoMemory, Pair64};
@@ -108,7 +108,7 @@ pub(crate) fn sample_commands(alloc: Global, seed: u64, size: u64) -> Result<Par
     requires some { 1 ≤ size }
     requires few { size ≤ 1000000 }
     ensures exact { IfOk result (λ commands. commands ≡ parsed.Map (sample_commands seed size)) }
-    ensures registers { IfOk result NamesRegisters }
+    ensures lawful { IfOk result IsLawful }
 {
     let mut generator = Generator { number: seed };
     let first = generator.pairs(alloc, size)?;

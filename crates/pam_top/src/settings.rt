@@ -27,6 +27,10 @@ fn tool_of(name: &str) -> Option<Tool>
 {
     match name {
         "map" => Some(Tool::Map),
+        "interval" => Some(Tool::Interval),
+        "points" => Some(Tool::Points),
+        "index" => Some(Tool::Index),
+        "graph" => Some(Tool::Graph),
         "sample" => Some(Tool::Sample),
         _ => None,
     }

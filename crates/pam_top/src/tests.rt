@@ -12,9 +12,10 @@ use std::process::Abort;
 use std::test::Fail;
 use std::thread::Threads;
 
-/// An input of the tool map, the status and the text that it must give.
+/// A tool's input, the status and the text that it must give.
 #[derive(Clone, Copy)]
 struct Row<'a> {
+    tool: &'a str,
     input: &'a [u8],
     status: Status,
     text: &'a [u8],
@@ -72,7 +73,7 @@ fn check(rt: &(impl Abort + Threads + Sync), alloc: Global, row: &Row) -> Result
             writes: &[],
         };
         let workers = if piece == 1 { "1" } else { "64" };
-        let words = ["--workers", workers, "--grain", "1", "map"];
+        let words = ["--workers", workers, "--grain", "1", row.tool];
         let (status, text) = run(rt, alloc, &words, row.input, &edge)?;
         assert_eq!(rt; status, row.status);
         assert_eq!(rt; text.as_slice(), row.text);
@@ -114,6 +115,7 @@ fn replies_to_an_input(rt: HostRuntime) -> Result<(), Fail> {
     ];
     for (input, text) in rows {
         let row = Row {
+            tool: "map",
             input,
             status: Status::Ok,
             text,
@@ -164,6 +166,47 @@ fn replies_to_each_verb(rt: HostRuntime) -> Result<(), Fail> {
     ];
     for (input, text) in rows {
         let row = Row {
+            tool: "map",
+            input,
+            status: Status::Ok,
+            text,
+        };
+        check(&rt, rt.alloc(), &row)?;
+    }
+    Ok(())
+}
+
+#[test]
+fn replies_of_the_other_tools(rt: HostRuntime) -> Result<(), Fail> {
+    let rows: [(&str, &[u8], &[u8]); 4] = [
+        // both ends of an interval are in it, and intervals may share an end
+        (
+            "interval",
+            b"any,0\nadd,1,3\nadd,3,3\nadd,5,9\nany,3\nany,4\nstab,3\nover,4,5\ndel,1,3\nstab,2\nsize\n",
+            b"no\nok,1\nok,2\nok,3\nyes\nno\nhits,2,1,3,3,3\nhits,1,5,9\nok,2\nhits,0\nsize,2\n",
+        ),
+        // a rectangle with points, and one that has none
+        (
+            "points",
+            b"add,1,1,5,1,2,7\nadd,2,1,9\nsum,1,1,1,2\nsum,3,4,0,9\nlist,1,2,1,1\ndel,1,1\nsize\n",
+            b"ok\nok\nsum,12,2\nsum,0,0\npoints,2,1,1,5,2,1,9\nok\nsize,2\n",
+        ),
+        // capital letters become small, a document is added once, and a text may have no terms
+        (
+            "index",
+            b"doc,0,\"to be, or not to be\"\ndoc,1,Not yet\nand,not\nand,to,be\nor,to,yet\nwithout,not,yet\ntop,1,to\ntop,0,to\ndoc,1,again\ndoc,2,\"\"\n",
+            b"ok,4\nok,2\ndocs,2,0,1,1,1\ndocs,1,0,4\ndocs,2,0,2,1,1\ndocs,1,0,1\ndocs,1,0,2\ndocs,0\nknown\nok,0\n",
+        ),
+        // a kept graph stays as it was, and a graph that was not kept has no search
+        (
+            "graph",
+            b"add,1,2,2,3,1,3\nkeep\ncut,1,3\nbfs,0,1\nnow,1\nnow,7\nbfs,1,1\ndegree,1\nsize\n",
+            b"ok,3\nkept,0\nok,2\nbfs,3,1,0,2,1,3,1\nbfs,3,1,0,2,1,3,2\nbfs,1,7,0\nnone\ndegree,1\ngraph,2,2\n",
+        ),
+    ];
+    for (tool, input, text) in rows {
+        let row = Row {
+            tool,
             input,
             status: Status::Ok,
             text,
@@ -207,6 +250,31 @@ fn the_line_of_the_first_bad_record(rt: HostRuntime) -> Result<(), Fail> {
     ];
     for (input, text) in rows {
         let row = Row {
+            tool: "map",
+            input,
+            status: Status::BadRecord,
+            text,
+        };
+        check(&rt, rt.alloc(), &row)?;
+    }
+    Ok(())
+}
+
+#[test]
+fn the_line_of_the_first_bad_record_of_the_other_tools(rt: HostRuntime) -> Result<(), Fail> {
+    let rows: [(&str, &[u8], &[u8]); 8] = [
+        ("interval", b"size\nadd,4,2\n", b"error,2,interval\n"),
+        ("interval", b"over,5,4\n", b"error,1,interval\n"),
+        ("interval", b"add,4,x\n", b"error,1,number\n"),
+        ("points", b"add,1,2\n", b"error,1,fields\n"),
+        ("points", b"put,0,1,2\n", b"error,1,verb\n"),
+        ("index", b"and,a-b\n", b"error,1,term\n"),
+        ("index", b"top,x,to\n", b"error,1,number\n"),
+        ("graph", b"keep\nadd,1\n", b"error,2,fields\n"),
+    ];
+    for (tool, input, text) in rows {
+        let row = Row {
+            tool,
             input,
             status: Status::BadRecord,
             text,
@@ -237,7 +305,7 @@ fn words_that_are_lawful_and_words_that_are_not(rt: HostRuntime) -> Result<(), F
     let unlawful: [&[&str]; 10] = [
         &[],
         &["frob"],
-        &["interval"],
+        &["Interval"],
         &["map", "map"],
         &["--workers", "0", "map"],
         &["--workers", "65", "map"],

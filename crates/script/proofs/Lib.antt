@@ -5,4 +5,7 @@ pub mod NumberFacts
 pub mod CommandFacts
 pub mod LineFacts
 pub mod ListFacts
+pub mod RowFacts
 pub mod RegisterFacts
+pub mod IntervalFacts
+pub mod IndexFacts

@@ -1,34 +1,23 @@
 -- The commands that are read name registers from 0 to 15.
-use Rattle.std.proofs.Common.{◌+◌, ◌<◌, ◌==◌, ◌%◌, ℕ, List, [], ◌∷◌, Option, Some, None, Result, Ok, Err, IfOk, Bool, cond, inl, inr, length, drop, nat_le, nat_lt, codes}
+use Rattle.std.proofs.Common.{◌<◌, ◌==◌, ◌%◌, ℕ, List, Option, Some, None, Result, IfOk, inl, inr, length, drop, nat_le, nat_lt, codes}
 use Rattle.std.specs.List.{AllByRecursion}
 use Rattle.std.proofs.lemmas.Bool.{cases_Bool, ltb-true}
 use Rattle.aug_monoid.specs.declared.pair64.Pair64.{Pair64}
 use Rattle.script.proofs.Chosen.{either_way}
+use Rattle.script.proofs.RowFacts.{all_keep, made₁, made₂, made₃, made₄, ok_then, then_any, where_it_fits}
 use Rattle.script.specs.Commands.{commands_from}
-use Rattle.script.specs.Fields as shape
 use Rattle.script.specs.Fields.{field, fitting_register, how_in, number_in, numbers_of, or_code, pairs_of, register_in}
-use Rattle.script.specs.Map.{entry_command, has_verb, joint_command, makes₁, makes₂, makes₃, makes₄, map_command, part_command, range_command}
+use Rattle.script.specs.Map.{entry_command, joint_command, map_command, part_command, range_command}
 use Rattle.script.specs.Numbers.{number_of}
 use Rattle.script.specs.Records.{Fields}
 use Rattle.script.specs.Registers.{HasRegisters}
-use Rattle.script.specs.Results.{◌>>=◌, at_place}
+use Rattle.script.specs.Results.{◌>>=◌}
+use Rattle.script.specs.Rows.{has_verb}
+use Rattle.script.specs.Shapes as shape
 use Rattle.script.specs.declared.fault.Code.{Code}
 use Rattle.script.specs.declared.fault.Code.TheVariants as code
 use Rattle.script.specs.declared.map.How.{How}
 use Rattle.script.specs.declared.map.MapCommand.{MapCommand}
-
--- what holds of each value that goes on holds of the end
-ok_then : {A B E : Type 0} (Q : A → Type 0) (P : B → Type 0) (r : Result A E) (f : A → Result B E) → IfOk r Q → ((x : A) → Q x → IfOk (f x) P) → IfOk (r >>= f) P
-ok_then Q P (Ok x) f q h = h x q
-ok_then Q P (Err e) f q h = tt
-
-then_any : {A B E : Type 0} (P : B → Type 0) (r : Result A E) (f : A → Result B E) → ((x : A) → IfOk (f x) P) → IfOk (r >>= f) P
-then_any P (Ok x) f h = h x
-then_any P (Err e) f h = tt
-
--- in a record that doesn't fit nothing is to show
-where_it_fits : {A : Type 0} (P : A → Type 0) (fits : Bool) (read : Result A Code) → IfOk read P → IfOk (cond fits read (Err code.Fields)) P
-where_it_fits P fits read h = either_way (λ r. IfOk r P) fits read (Err code.Fields) h tt
 
 abbrev IsLow : ℕ → Type 0
 IsLow n = n < 16
@@ -114,80 +103,59 @@ three_registers_how_lows : (r : Fields) → IfOk (shape.three_registers_how r) T
 three_registers_how_lows r = where_it_fits ThreeOf₄ (length r == 5) _ (
     then_low ThreeOf₄ r 1 _ (λ a low. then_low ThreeOf₄ r 2 _ (λ b second. then_low ThreeOf₄ r 3 _ (λ c third. then_any ThreeOf₄ (how_in r 4) _ (λ d. (low, second, third))))))
 
--- so a command that is made of them has its registers
-made₁ : {A : Type 0} (Q : A → Type 0) (make : A → MapCommand) (read : Result A Code) → IfOk read Q → ((a : A) → Q a → HasRegisters (make a)) → Lawful (makes₁ make read)
-made₁ Q make read q h = ok_then Q HasRegisters read _ q h
-
-made₂ : {A B : Type 0} (Q : A × B → Type 0) (make : A → B → MapCommand) (read : Result (A × B) Code) → IfOk read Q → ((f : A × B) → Q f → HasRegisters (make f.0 f.1)) → Lawful (makes₂ make read)
-made₂ Q make read q h = ok_then Q HasRegisters read _ q h
-
-made₃ : {A B C : Type 0} (Q : A × B × C → Type 0) (make : A → B → C → MapCommand) (read : Result (A × B × C) Code) → IfOk read Q → ((f : A × B × C) → Q f → HasRegisters (make f.0 f.1 f.2)) → Lawful (makes₃ make read)
-made₃ Q make read q h = ok_then Q HasRegisters read _ q h
-
-made₄ : {A B C D : Type 0} (Q : A × B × C × D → Type 0) (make : A → B → C → D → MapCommand) (read : Result (A × B × C × D) Code) → IfOk read Q → ((f : A × B × C × D) → Q f → HasRegisters (make f.0 f.1 f.2 f.3)) → Lawful (makes₄ make read)
-made₄ Q make read q h = ok_then Q HasRegisters read _ q h
-
 -- a row for each verb
 part_lawful : (place : ℕ) (r : Fields) → Lawful (part_command place r)
 unfolding part_command
 part_lawful place r =
-    either_way Lawful (has_verb r (codes "below")) _ _ (made₃ TwoOf₃ _ _ (two_registers_number_lows r) (λ f low. low))
-    (either_way Lawful (has_verb r (codes "above")) _ _ (made₃ TwoOf₃ _ _ (two_registers_number_lows r) (λ f low. low))
-    (either_way Lawful (has_verb r (codes "slice")) _ _ (made₄ TwoOf₄ _ _ (two_registers_number_number_lows r) (λ f low. low))
-    (either_way Lawful (has_verb r (codes "atleast")) _ _ (made₃ TwoOf₃ _ _ (two_registers_number_lows r) (λ f low. low))
-    (either_way Lawful (has_verb r (codes "filter")) _ _ (made₄ TwoOf₄ _ _ (two_registers_number_number_lows r) (λ f low. low))
+    either_way Lawful (has_verb r (codes "below")) _ _ (made₃ HasRegisters TwoOf₃ _ _ (two_registers_number_lows r) (λ f low. low))
+    (either_way Lawful (has_verb r (codes "above")) _ _ (made₃ HasRegisters TwoOf₃ _ _ (two_registers_number_lows r) (λ f low. low))
+    (either_way Lawful (has_verb r (codes "slice")) _ _ (made₄ HasRegisters TwoOf₄ _ _ (two_registers_number_number_lows r) (λ f low. low))
+    (either_way Lawful (has_verb r (codes "atleast")) _ _ (made₃ HasRegisters TwoOf₃ _ _ (two_registers_number_lows r) (λ f low. low))
+    (either_way Lawful (has_verb r (codes "filter")) _ _ (made₄ HasRegisters TwoOf₄ _ _ (two_registers_number_number_lows r) (λ f low. low))
     tt))))
 
 joint_lawful : (place : ℕ) (r : Fields) → Lawful (joint_command place r)
 unfolding joint_command
 joint_lawful place r =
-    either_way Lawful (has_verb r (codes "copy")) _ _ (made₂ TwoOf₂ _ _ (two_registers_lows r) (λ f low. low))
-    (either_way Lawful (has_verb r (codes "union")) _ _ (made₄ ThreeOf₄ _ _ (three_registers_how_lows r) (λ f low. low))
-    (either_way Lawful (has_verb r (codes "inter")) _ _ (made₄ ThreeOf₄ _ _ (three_registers_how_lows r) (λ f low. low))
-    (either_way Lawful (has_verb r (codes "diff")) _ _ (made₃ ThreeOf₃ _ _ (three_registers_lows r) (λ f low. low))
-    (either_way Lawful (has_verb r (codes "cat")) _ _ (made₃ ThreeOf₃ _ _ (three_registers_lows r) (λ f low. low))
+    either_way Lawful (has_verb r (codes "copy")) _ _ (made₂ HasRegisters TwoOf₂ _ _ (two_registers_lows r) (λ f low. low))
+    (either_way Lawful (has_verb r (codes "union")) _ _ (made₄ HasRegisters ThreeOf₄ _ _ (three_registers_how_lows r) (λ f low. low))
+    (either_way Lawful (has_verb r (codes "inter")) _ _ (made₄ HasRegisters ThreeOf₄ _ _ (three_registers_how_lows r) (λ f low. low))
+    (either_way Lawful (has_verb r (codes "diff")) _ _ (made₃ HasRegisters ThreeOf₃ _ _ (three_registers_lows r) (λ f low. low))
+    (either_way Lawful (has_verb r (codes "cat")) _ _ (made₃ HasRegisters ThreeOf₃ _ _ (three_registers_lows r) (λ f low. low))
     (part_lawful place r)))))
 
 range_lawful : (place : ℕ) (r : Fields) → Lawful (range_command place r)
 unfolding range_command
 range_lawful place r =
-    either_way Lawful (has_verb r (codes "sum")) _ _ (made₃ OneOf₃ _ _ (register_number_number_lows r) (λ f low. low))
-    (either_way Lawful (has_verb r (codes "max")) _ _ (made₃ OneOf₃ _ _ (register_number_number_lows r) (λ f low. low))
-    (either_way Lawful (has_verb r (codes "list")) _ _ (made₃ OneOf₃ _ _ (register_number_number_lows r) (λ f low. low))
-    (either_way Lawful (has_verb r (codes "count")) _ _ (made₃ OneOf₃ _ _ (register_number_number_lows r) (λ f low. low))
+    either_way Lawful (has_verb r (codes "sum")) _ _ (made₃ HasRegisters OneOf₃ _ _ (register_number_number_lows r) (λ f low. low))
+    (either_way Lawful (has_verb r (codes "max")) _ _ (made₃ HasRegisters OneOf₃ _ _ (register_number_number_lows r) (λ f low. low))
+    (either_way Lawful (has_verb r (codes "list")) _ _ (made₃ HasRegisters OneOf₃ _ _ (register_number_number_lows r) (λ f low. low))
+    (either_way Lawful (has_verb r (codes "count")) _ _ (made₃ HasRegisters OneOf₃ _ _ (register_number_number_lows r) (λ f low. low))
     (joint_lawful place r))))
 
 entry_lawful : (place : ℕ) (r : Fields) → Lawful (entry_command place r)
 unfolding entry_command
 entry_lawful place r =
-    either_way Lawful (has_verb r (codes "get")) _ _ (made₂ (OneOf₂ ℕ) _ _ (register_number_lows r) (λ f low. low))
-    (either_way Lawful (has_verb r (codes "size")) _ _ (made₁ IsLow _ _ (register_lows r) (λ f low. low))
-    (either_way Lawful (has_verb r (codes "fold")) _ _ (made₁ IsLow _ _ (register_lows r) (λ f low. low))
-    (either_way Lawful (has_verb r (codes "rank")) _ _ (made₂ (OneOf₂ ℕ) _ _ (register_number_lows r) (λ f low. low))
-    (either_way Lawful (has_verb r (codes "select")) _ _ (made₂ (OneOf₂ ℕ) _ _ (register_number_lows r) (λ f low. low))
-    (either_way Lawful (has_verb r (codes "next")) _ _ (made₂ (OneOf₂ ℕ) _ _ (register_number_lows r) (λ f low. low))
-    (either_way Lawful (has_verb r (codes "prev")) _ _ (made₂ (OneOf₂ ℕ) _ _ (register_number_lows r) (λ f low. low))
+    either_way Lawful (has_verb r (codes "get")) _ _ (made₂ HasRegisters (OneOf₂ ℕ) _ _ (register_number_lows r) (λ f low. low))
+    (either_way Lawful (has_verb r (codes "size")) _ _ (made₁ HasRegisters IsLow _ _ (register_lows r) (λ f low. low))
+    (either_way Lawful (has_verb r (codes "fold")) _ _ (made₁ HasRegisters IsLow _ _ (register_lows r) (λ f low. low))
+    (either_way Lawful (has_verb r (codes "rank")) _ _ (made₂ HasRegisters (OneOf₂ ℕ) _ _ (register_number_lows r) (λ f low. low))
+    (either_way Lawful (has_verb r (codes "select")) _ _ (made₂ HasRegisters (OneOf₂ ℕ) _ _ (register_number_lows r) (λ f low. low))
+    (either_way Lawful (has_verb r (codes "next")) _ _ (made₂ HasRegisters (OneOf₂ ℕ) _ _ (register_number_lows r) (λ f low. low))
+    (either_way Lawful (has_verb r (codes "prev")) _ _ (made₂ HasRegisters (OneOf₂ ℕ) _ _ (register_number_lows r) (λ f low. low))
     (range_lawful place r)))))))
 
 lawful : (place : ℕ) (r : Fields) → Lawful (map_command place r)
 unfolding map_command
 lawful place r =
-    either_way Lawful (has_verb r (codes "put")) _ _ (made₃ OneOf₃ _ _ (register_number_number_lows r) (λ f low. low))
-    (either_way Lawful (has_verb r (codes "del")) _ _ (made₂ (OneOf₂ ℕ) _ _ (register_number_lows r) (λ f low. low))
-    (either_way Lawful (has_verb r (codes "clear")) _ _ (made₁ IsLow _ _ (register_lows r) (λ f low. low))
-    (either_way Lawful (has_verb r (codes "build")) _ _ (made₂ (OneOf₂ (List Pair64)) _ _ (register_pairs_lows r) (λ f low. low))
-    (either_way Lawful (has_verb r (codes "mput")) _ _ (made₂ (OneOf₂ (List Pair64)) _ _ (register_some_pairs_lows r) (λ f low. low))
-    (either_way Lawful (has_verb r (codes "mdel")) _ _ (made₂ (OneOf₂ (List ℕ)) _ _ (register_numbers_lows r) (λ f low. low))
+    either_way Lawful (has_verb r (codes "put")) _ _ (made₃ HasRegisters OneOf₃ _ _ (register_number_number_lows r) (λ f low. low))
+    (either_way Lawful (has_verb r (codes "del")) _ _ (made₂ HasRegisters (OneOf₂ ℕ) _ _ (register_number_lows r) (λ f low. low))
+    (either_way Lawful (has_verb r (codes "clear")) _ _ (made₁ HasRegisters IsLow _ _ (register_lows r) (λ f low. low))
+    (either_way Lawful (has_verb r (codes "build")) _ _ (made₂ HasRegisters (OneOf₂ (List Pair64)) _ _ (register_pairs_lows r) (λ f low. low))
+    (either_way Lawful (has_verb r (codes "mput")) _ _ (made₂ HasRegisters (OneOf₂ (List Pair64)) _ _ (register_some_pairs_lows r) (λ f low. low))
+    (either_way Lawful (has_verb r (codes "mdel")) _ _ (made₂ HasRegisters (OneOf₂ (List ℕ)) _ _ (register_numbers_lows r) (λ f low. low))
     (entry_lawful place r))))))
-
-placed : (place : ℕ) (read : Result MapCommand Code) → Lawful read → IfOk (at_place place read) HasRegisters
-placed place (Ok c) h = h
-placed place (Err e) h = tt
 
 -- what the records say names registers from 0 to 15
 pub all_lawful : (place : ℕ) (rs : List Fields) → IfOk (commands_from map_command place rs) (AllByRecursion HasRegisters)
-unfolding commands_from
-all_lawful place [] = tt
-all_lawful place (r ∷ rs) =
-    ok_then HasRegisters (AllByRecursion HasRegisters) (at_place place (map_command place r)) _ (placed place (map_command place r) (lawful place r))
-    (λ c low. ok_then (AllByRecursion HasRegisters) (AllByRecursion HasRegisters) (commands_from map_command (place + 1) rs) _ (all_lawful (place + 1) rs) (λ cs more. (low, more)))
+all_lawful = all_keep HasRegisters map_command lawful

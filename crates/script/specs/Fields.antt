@@ -1,14 +1,16 @@
 -- The fields of a record, each lawful or with its code, from left to right.
-use Rattle.std.specs.Prelude.{◌==◌, ◌%◌, ◌∷◌, ℕ, List, [], codes, drop, length, Result, Ok, Err, Option, Some, None, slice_index_or, nat_le, nat_lt, if◌then◌else◌}
+use Rattle.std.specs.Prelude.{◌∷◌, ℕ, List, [], codes, Result, Ok, Err, Option, Some, None, slice_index_or, nat_lt, if◌then◌else◌}
 use Rattle.std.specs.Str.{bytes_eq}
 use Rattle.aug_monoid.specs.declared.pair64.Pair64.{Pair64}
 use Rattle.script.specs.Numbers.{number_of}
 use Rattle.script.specs.Records.{Fields}
 use Rattle.script.specs.Results.{◌>>=◌}
+use Rattle.script.specs.Terms.{is_term}
 use Rattle.script.specs.declared.fault.Code.{Code}
 use Rattle.script.specs.declared.fault.Code.TheVariants as code
 use Rattle.script.specs.declared.map.How.{How}
 use Rattle.script.specs.declared.map.How.TheVariants as how
+use Rattle.script.specs.declared.points.Weighed.{Weighed}
 
 -- the field at a place, or nothing past the record's end
 abbrev pub field : Fields → ℕ → List ℕ
@@ -18,18 +20,6 @@ field r i = slice_index_or r i []
 abbrev pub or_code : {A : Type 0} → Code → Option A → Result A Code
 or_code c None = Err c
 or_code c (Some x) = Ok x
-
--- reading goes on only in a record with so many fields
-abbrev pub with_fields : {A : Type 0} → ℕ → Fields → Result A Code → Result A Code
-with_fields n r read = if length r == n then read else Err code.Fields
-
--- or with at least so many
-abbrev pub with_at_least : {A : Type 0} → ℕ → Fields → Result A Code → Result A Code
-with_at_least n r read = if nat_le n (length r) then read else Err code.Fields
-
--- or with an even number of them
-abbrev pub with_even : {A : Type 0} → Fields → Result A Code → Result A Code
-with_even r read = if length r % 2 == 0 then read else Err code.Fields
 
 abbrev pub number_in : Fields → ℕ → Result ℕ Code
 number_in r i = or_code code.Number (number_of (field r i))
@@ -54,6 +44,20 @@ how_named word =
 abbrev pub how_in : Fields → ℕ → Result How Code
 how_in r i = or_code code.How (how_named (field r i))
 
+abbrev pub term_of : List ℕ → Result (List ℕ) Code
+term_of bytes = if is_term bytes then Ok bytes else Err code.Term
+
+abbrev pub term_in : Fields → ℕ → Result (List ℕ) Code
+term_in r i = term_of (field r i)
+
+-- fields that are all terms
+unfoldable pub terms_of : Fields → Result (List (List ℕ)) Code
+terms_of [] = Ok []
+terms_of (f ∷ fs) = do
+  t ← term_of f
+  ts ← terms_of fs
+  Ok (t ∷ ts)
+
 -- fields that are all numbers
 unfoldable pub numbers_of : Fields → Result (List ℕ) Code
 numbers_of [] = Ok []
@@ -77,80 +81,19 @@ pairs_of (a ∷ b ∷ fs) = do
   pairs ← pairs_of fs
   Ok (pair ∷ pairs)
 
--- a verb and a register
-abbrev pub register : Fields → Result ℕ Code
-register r = with_fields 2 r (register_in r 1)
+abbrev pub point_of : List ℕ → List ℕ → List ℕ → Result Weighed Code
+point_of a b c = do
+  x ← or_code code.Number (number_of a)
+  y ← or_code code.Number (number_of b)
+  w ← or_code code.Number (number_of c)
+  Ok (record { x = x; y = y; w = w })
 
--- a verb, a register and a number
-abbrev pub register_number : Fields → Result (ℕ × ℕ) Code
-register_number r = with_fields 3 r (do
-  a ← register_in r 1
-  b ← number_in r 2
-  Ok (a, b))
-
--- a verb, a register and two numbers
-abbrev pub register_number_number : Fields → Result (ℕ × ℕ × ℕ) Code
-register_number_number r = with_fields 4 r (do
-  a ← register_in r 1
-  b ← number_in r 2
-  c ← number_in r 3
-  Ok (a, b, c))
-
--- a verb, a register and any number of numbers, at least one
-abbrev pub register_numbers : Fields → Result (ℕ × List ℕ) Code
-register_numbers r = with_at_least 3 r (do
-  a ← register_in r 1
-  ns ← numbers_of (drop 2 r)
-  Ok (a, ns))
-
--- a verb, a register and any number of pairs of numbers
-abbrev pub register_pairs : Fields → Result (ℕ × List Pair64) Code
-register_pairs r = with_at_least 2 r (with_even r (do
-  a ← register_in r 1
-  ps ← pairs_of (drop 2 r)
-  Ok (a, ps)))
-
--- the same with at least one pair
-abbrev pub register_some_pairs : Fields → Result (ℕ × List Pair64) Code
-register_some_pairs r = with_at_least 4 r (register_pairs r)
-
--- a verb and two registers
-abbrev pub two_registers : Fields → Result (ℕ × ℕ) Code
-two_registers r = with_fields 3 r (do
-  a ← register_in r 1
-  b ← register_in r 2
-  Ok (a, b))
-
--- a verb, two registers and a number
-abbrev pub two_registers_number : Fields → Result (ℕ × ℕ × ℕ) Code
-two_registers_number r = with_fields 4 r (do
-  a ← register_in r 1
-  b ← register_in r 2
-  c ← number_in r 3
-  Ok (a, b, c))
-
--- a verb, two registers and two numbers
-abbrev pub two_registers_number_number : Fields → Result (ℕ × ℕ × ℕ × ℕ) Code
-two_registers_number_number r = with_fields 5 r (do
-  a ← register_in r 1
-  b ← register_in r 2
-  c ← number_in r 3
-  d ← number_in r 4
-  Ok (a, b, c, d))
-
--- a verb and three registers
-abbrev pub three_registers : Fields → Result (ℕ × ℕ × ℕ) Code
-three_registers r = with_fields 4 r (do
-  a ← register_in r 1
-  b ← register_in r 2
-  c ← register_in r 3
-  Ok (a, b, c))
-
--- a verb, three registers and how two values meet
-abbrev pub three_registers_how : Fields → Result (ℕ × ℕ × ℕ × How) Code
-three_registers_how r = with_fields 5 r (do
-  a ← register_in r 1
-  b ← register_in r 2
-  c ← register_in r 3
-  h ← how_in r 4
-  Ok (a, b, c, h))
+-- fields that are points with their weights
+unfoldable pub points_of : Fields → Result (List Weighed) Code
+points_of [] = Ok []
+points_of (a ∷ []) = Err code.Fields
+points_of (a ∷ b ∷ []) = Err code.Fields
+points_of (a ∷ b ∷ c ∷ fs) = do
+  point ← point_of a b c
+  points ← points_of fs
+  Ok (point ∷ points)

@@ -1,17 +1,24 @@
--- What the commands of the tool index that are read from records have.
-use Rattle.std.specs.Prelude.{◌≡◌, ◌≤◌, ℕ, [], ◌∷◌, List, Bool, true, false, length}
-use Rattle.std.specs.List.{AllByRecursion, list_all}
-use Rattle.core.specs.Char.{is_ascii_alphanumeric}
+-- The records of the tool index.
+use Rattle.std.specs.Prelude.{◌≡◌, ◌≤◌, ℕ, Result, Err, codes, length, if◌then◌else◌}
+use Rattle.std.specs.List.{AllByRecursion}
+use Rattle.script.specs.Records.{Fields}
+use Rattle.script.specs.Rows.{has_verb, makes₁, makes₂}
+use Rattle.script.specs.Shapes as shape
+pub use Rattle.script.specs.Terms.{IsTerm, is_term}
+use Rattle.script.specs.declared.fault.Code.{Code}
+use Rattle.script.specs.declared.fault.Code.TheVariants as code
 use Rattle.script.specs.declared.index.IndexCommand.{IndexCommand}
 use Rattle.script.specs.declared.index.IndexCommand.TheVariants as command
 
--- a term: at least one byte, all of them ASCII letters or digits
-abbrev pub is_term : List ℕ → Bool
-is_term [] = false
-is_term (b ∷ bs) = list_all is_ascii_alphanumeric (b ∷ bs)
-
-abbrev pub IsTerm : List ℕ → Type 0
-IsTerm bytes = is_term bytes ≡ true
+-- what the record with this number says: a row for each verb, with its fields
+unfoldable pub index_command : ℕ → Fields → Result IndexCommand Code
+index_command place r =
+    if has_verb r (codes "doc") then makes₂ (command.Doc place) (shape.number_text r)
+    else if has_verb r (codes "and") then makes₁ (command.And place) (shape.some_terms r)
+    else if has_verb r (codes "or") then makes₁ (command.Or place) (shape.some_terms r)
+    else if has_verb r (codes "without") then makes₁ (command.Without place) (shape.two_terms r)
+    else if has_verb r (codes "top") then makes₂ (command.Top place) (shape.number_term r)
+    else Err code.Verb
 
 -- the terms of a command are lawful, and as many as its verb asks for
 abbrev pub HasTerms : IndexCommand → Type 0

@@ -21,6 +21,8 @@ code_word code.Fields = codes "fields"
 code_word code.Number = codes "number"
 code_word code.Register = codes "register"
 code_word code.How = codes "how"
+code_word code.Term = codes "term"
+code_word code.Interval = codes "interval"
 
 -- the one line for a bad record
 abbrev pub error_line_of : BadRecord → List ℕ

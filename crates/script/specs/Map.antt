@@ -1,31 +1,12 @@
 -- The records of the tool map.
-use Rattle.std.specs.Prelude.{ℕ, List, Result, Ok, Err, Bool, codes, if◌then◌else◌}
-use Rattle.std.specs.Str.{bytes_eq}
-use Rattle.script.specs.Fields as shape
-use Rattle.script.specs.Fields.{field}
+use Rattle.std.specs.Prelude.{ℕ, Result, Err, codes, if◌then◌else◌}
 use Rattle.script.specs.Records.{Fields}
-use Rattle.script.specs.Results.{◌>>=◌}
+use Rattle.script.specs.Rows.{has_verb, makes₁, makes₂, makes₃, makes₄}
+use Rattle.script.specs.Shapes as shape
 use Rattle.script.specs.declared.fault.Code.{Code}
 use Rattle.script.specs.declared.fault.Code.TheVariants as code
 use Rattle.script.specs.declared.map.MapCommand.{MapCommand}
 use Rattle.script.specs.declared.map.MapCommand.TheVariants as command
-
--- the verb of a record
-abbrev pub has_verb : Fields → List ℕ → Bool
-has_verb r word = bytes_eq (field r 0) word
-
--- the command that one to four fields make
-abbrev pub makes₁ : {A : Type 0} → (A → MapCommand) → Result A Code → Result MapCommand Code
-makes₁ make read = read >>= λ a. Ok (make a)
-
-abbrev pub makes₂ : {A B : Type 0} → (A → B → MapCommand) → Result (A × B) Code → Result MapCommand Code
-makes₂ make read = read >>= λ f. Ok (make f.0 f.1)
-
-abbrev pub makes₃ : {A B C : Type 0} → (A → B → C → MapCommand) → Result (A × B × C) Code → Result MapCommand Code
-makes₃ make read = read >>= λ f. Ok (make f.0 f.1 f.2)
-
-abbrev pub makes₄ : {A B C D : Type 0} → (A → B → C → D → MapCommand) → Result (A × B × C × D) Code → Result MapCommand Code
-makes₄ make read = read >>= λ f. Ok (make f.0 f.1 f.2 f.3)
 
 -- the verbs that make a register a part of another one
 unfoldable pub part_command : ℕ → Fields → Result MapCommand Code

@@ -1,10 +1,7 @@
 -- Which registers a command names.
 use Rattle.std.specs.Prelude.{◌<◌}
-use Rattle.std.specs.List.{AllByRecursion}
 use Rattle.script.specs.declared.map.MapCommand.{MapCommand}
 use Rattle.script.specs.declared.map.MapCommand.TheVariants as command
-use Rattle.script.specs.declared.parsed.Parsed.{Parsed}
-use Rattle.script.specs.declared.parsed.Parsed.TheVariants as parsed
 
 -- the registers of a command are 0 to 15
 abbrev pub HasRegisters : MapCommand → Type 0
@@ -35,7 +32,3 @@ HasRegisters (command.Above place d m k) = (d < 16) × (m < 16)
 HasRegisters (command.Slice place d m lo hi) = (d < 16) × (m < 16)
 HasRegisters (command.Atleast place d m t) = (d < 16) × (m < 16)
 HasRegisters (command.Filter place d m lo hi) = (d < 16) × (m < 16)
-
--- so are the registers of all commands of an input
-abbrev pub NamesRegisters : Parsed → Type 0
-NamesRegisters (parsed.Map commands) = AllByRecursion HasRegisters commands

@@ -10,10 +10,10 @@ module _ {State Command : Type 0} (reply : State → Command → List ℕ) (afte
 
   -- replies so far, and those to the commands that are left
   pub replies-next : (whole out : List ℕ) (s : State) (cs : List Command) (i : ℕ) (c : Command) → i < length cs → c ≡ get_or cs i c
-      → whole ≡ out ++ replies reply after s (drop i cs) → whole ≡ (out ++ reply s c) ++ replies reply after (after s c) (drop (i + 1) cs)
+      → whole ≡ out ++ replies s (drop i cs) → whole ≡ (out ++ reply s c) ++ replies (after s c) (drop (i + 1) cs)
   replies-next whole out s cs i c h is so_far =
-      let next : replies reply after s (drop i cs) ≡ reply s c ++ replies reply after (after s c) (drop (i + 1) cs) = rw (add-one, drop-cons cs i c, ← is) refl in
+      let next : replies s (drop i cs) ≡ reply s c ++ replies (after s c) (drop (i + 1) cs) = rw (add-one, drop-cons cs i c, ← is) refl in
       so_far ∙ ap (λ rest. out ++ rest) next ∙ sym (append_assoc out (reply s c) _)
 
-  pub replies-end : (whole out : List ℕ) (s : State) (cs : List Command) (i : ℕ) → length cs ≤ i → whole ≡ out ++ replies reply after s (drop i cs) → whole ≡ out
+  pub replies-end : (whole out : List ℕ) (s : State) (cs : List Command) (i : ℕ) → length cs ≤ i → whole ≡ out ++ replies s (drop i cs) → whole ≡ out
   replies-end whole out s cs i h so_far = so_far ∙ rw (drop_all i cs h) (append-nil out)

@@ -8,7 +8,7 @@ use std::alloc::{AllocError, AllocFailed};
 use thiserror::Error;
 
 /// Why a record is bad. A record is checked in this order, and the first fault counts: its verb,
-/// how many fields it has, and its other fields from left to right.
+/// how many fields it has, its other fields from left to right, and how these compare.
 #[derive(Clone, Copy, Debug, PartialEq, Eq)]
 pub enum Code {
     /// The first field is no verb of the tool.
@@ -21,6 +21,10 @@ pub enum Code {
     Register,
     /// A field is no word for how two values meet.
     How,
+    /// A field is no term: it is empty, or has a byte that is no ASCII letter or digit.
+    Term,
+    /// The first end of an interval is greater than its last.
+    Interval,
 }
 
 /// The first bad record, by its number from 1.
@@ -49,6 +53,14 @@ impl<T: Drop> From<AllocFailed<T>> for RecordFault {
     ghost from_gives = { λ _ e. e ≡ record_fault.NoMemory };
 
     fn from(_: AllocFailed<T>) -> Self {
+        RecordFault::NoMemory
+    }
+}
+
+impl From<AllocError> for RecordFault {
+    ghost from_gives = { λ _ e. e ≡ record_fault.NoMemory };
+
+    fn from(_: AllocError) -> Self {
         RecordFault::NoMemory
     }
 }

@@ -6,30 +6,13 @@ use crate::Items;
 #[derive(Drop)]
 pub enum IndexCommand {
     /// Adds document `i` with this text.
-    Doc {
-        place: u64,
-        i: u64,
-        text: Items<u8>,
-    },
+    Doc { place: u64, i: u64, text: Items<u8> },
     /// Asks for the documents that have all these terms, at least one.
-    And {
-        place: u64,
-        terms: Items<Items<u8>>,
-    },
+    And { place: u64, terms: Items<Items<u8>> },
     /// Asks for the documents that have one of these terms, at least one.
-    Or {
-        place: u64,
-        terms: Items<Items<u8>>,
-    },
+    Or { place: u64, terms: Items<Items<u8>> },
     /// Asks for the documents that have the first of two terms and not the second.
-    Without {
-        place: u64,
-        terms: Items<Items<u8>>,
-    },
+    Without { place: u64, terms: Items<Items<u8>> },
     /// Asks for the first `i` documents that have the term, by falling weight.
-    Top {
-        place: u64,
-        i: u64,
-        term: Items<u8>,
-    },
+    Top { place: u64, i: u64, term: Items<u8> },
 }

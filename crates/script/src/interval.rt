@@ -5,35 +5,15 @@
 #[derive(Clone, Copy, Debug, PartialEq, Eq)]
 pub enum IntervalCommand {
     /// Adds the interval.
-    Add {
-        place: u64,
-        l: u64,
-        r: u64,
-    },
+    Add { place: u64, l: u64, r: u64 },
     /// Removes the interval, which need not be there.
-    Del {
-        place: u64,
-        l: u64,
-        r: u64,
-    },
+    Del { place: u64, l: u64, r: u64 },
     /// Asks how many intervals there are.
-    Size {
-        place: u64,
-    },
+    Size { place: u64 },
     /// Asks whether an interval has `p`.
-    Any {
-        place: u64,
-        p: u64,
-    },
+    Any { place: u64, p: u64 },
     /// Asks for the intervals that have `p`.
-    Stab {
-        place: u64,
-        p: u64,
-    },
+    Stab { place: u64, p: u64 },
     /// Asks for the intervals that have a number from `lo` to `hi`, where `lo` is at most `hi`.
-    Over {
-        place: u64,
-        lo: u64,
-        hi: u64,
-    },
+    Over { place: u64, lo: u64, hi: u64 },
 }

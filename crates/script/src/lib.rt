@@ -5,16 +5,22 @@ mod command;
 mod fault;
 mod fields;
 mod graph;
+mod graph_records;
 mod index;
+mod index_records;
 mod interval;
+mod interval_records;
 mod items;
 mod lines;
+mod lists;
 mod map;
 mod map_records;
 mod numbers;
 mod parsed;
 mod points;
+mod points_records;
 mod records;
+mod shapes;
 #[cfg(test)]
 mod tests;
 

@@ -15,6 +15,8 @@ fn code_word(code: Code) -> &'static str
         Code::Number => "number",
         Code::Register => "register",
         Code::How => "how",
+        Code::Term => "term",
+        Code::Interval => "interval",
     }
 }
 

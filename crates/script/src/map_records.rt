@@ -5,8 +5,9 @@ ghost use Rattle.script.specs.Map.{entry_command, joint_command, map_command, pa
 
 use crate::command::Command;
 use crate::fault::RecordFault;
-use crate::fields::{
-    field_at, register, register_number, register_number_number, register_numbers, register_pairs,
+use crate::fields::field_at;
+use crate::shapes::{
+    register, register_number, register_number_number, register_numbers, register_pairs,
     register_some_pairs, three_registers, three_registers_how, two_registers, two_registers_number,
     two_registers_number_number,
 };

@@ -1,11 +1,13 @@
 //! The commands of a whole input.
 ghost use Rattle.std.specs.Prelude.{IfOk};
 ghost use Rattle.script.specs.Commands.{commands_of};
-ghost use Rattle.script.specs.Registers.{NamesRegisters};
+ghost use Rattle.script.specs.Lawful.{IsLawful};
 ghost use Rattle.script.specs.Results.{Gives};
 
 use crate::command::read_all;
-use crate::{Items, MapCommand, ScriptFault};
+use crate::{
+    GraphCommand, IndexCommand, IntervalCommand, Items, MapCommand, PointsCommand, ScriptFault,
+};
 use std::alloc::Global;
 
 /// A tool of the program.
@@ -13,6 +15,14 @@ use std::alloc::Global;
 pub enum Tool {
     /// Ordered maps in sixteen registers.
     Map,
+    /// A set of intervals.
+    Interval,
+    /// Points in the plane with weights.
+    Points,
+    /// Documents and their terms.
+    Index,
+    /// A directed graph and kept snapshots of it.
+    Graph,
     /// Commands of the tool map that are made from a seed and a size. It reads no records.
     Sample,
 }
@@ -21,6 +31,10 @@ pub enum Tool {
 #[derive(Drop)]
 pub enum Parsed {
     Map(Items<MapCommand>),
+    Interval(Items<IntervalCommand>),
+    Points(Items<PointsCommand>),
+    Index(Items<IndexCommand>),
+    Graph(Items<GraphCommand>),
 }
 
 /// The commands of a tool's input, or its first bad record. Records are those of `csv` with its
@@ -28,10 +42,14 @@ pub enum Parsed {
 /// sample reads none, and so its input has no commands. Time is linear in the input.
 pub fn commands(alloc: Global, tool: Tool, bytes: &[u8]) -> Result<Parsed, ScriptFault>
     ensures exact { Gives result (commands_of tool bytes.now) }
-    ensures registers { IfOk result NamesRegisters }
+    ensures lawful { IfOk result IsLawful }
 {
     match tool {
         Tool::Map => Ok(Parsed::Map(read_all(alloc, bytes)?)),
+        Tool::Interval => Ok(Parsed::Interval(read_all(alloc, bytes)?)),
+        Tool::Points => Ok(Parsed::Points(read_all(alloc, bytes)?)),
+        Tool::Index => Ok(Parsed::Index(read_all(alloc, bytes)?)),
+        Tool::Graph => Ok(Parsed::Graph(read_all(alloc, bytes)?)),
         Tool::Sample => Ok(Parsed::Map(Items::new(Vec::new(alloc)))),
     }
 }

@@ -3,10 +3,14 @@ use crate::{BadRecord, Code, Parsed, ScriptFault, Tool, commands, error_line, li
 use std::alloc::Global;
 use std::test::Fail;
 
-/// How many commands an input has, or its first bad record.
-fn read(alloc: Global, input: &[u8]) -> Result<usize, ScriptFault> {
-    match commands(alloc, Tool::Map, input)? {
+/// How many commands a tool's input has, or its first bad record.
+fn read(alloc: Global, tool: Tool, input: &[u8]) -> Result<usize, ScriptFault> {
+    match commands(alloc, tool, input)? {
         Parsed::Map(list) => Ok(list.items().len()),
+        Parsed::Interval(list) => Ok(list.items().len()),
+        Parsed::Points(list) => Ok(list.items().len()),
+        Parsed::Index(list) => Ok(list.items().len()),
+        Parsed::Graph(list) => Ok(list.items().len()),
     }
 }
 
@@ -37,13 +41,13 @@ fn each_verb_of_the_tool_map(rt: HostRuntime) -> Result<(), Fail> {
         ),
     ];
     for (input, count) in inputs {
-        assert_eq!(rt; read(rt.alloc(), input), Ok(count));
+        assert_eq!(rt; read(rt.alloc(), Tool::Map, input), Ok(count));
     }
     Ok(())
 }
 
 #[test]
-fn the_first_bad_record_and_its_code(rt: HostRuntime) -> Result<(), Fail> {
+fn the_first_bad_record_of_the_tool_map(rt: HostRuntime) -> Result<(), Fail> {
     let rows: [(&[u8], u64, Code); 16] = [
         (b"put,0,5,10\n\nget,16,5\nfrob\n", 2, Code::Register),
         (b"Put,0,5,10\n", 1, Code::Verb),
@@ -64,7 +68,91 @@ fn the_first_bad_record_and_its_code(rt: HostRuntime) -> Result<(), Fail> {
     ];
     for (input, place, code) in rows {
         let bad = BadRecord { place, code };
-        assert_eq!(rt; read(rt.alloc(), input), Err(ScriptFault::Bad(bad)));
+        assert_eq!(rt;
+            read(rt.alloc(), Tool::Map, input),
+            Err(ScriptFault::Bad(bad))
+        );
+    }
+    Ok(())
+}
+
+#[test]
+fn each_verb_of_the_other_tools(rt: HostRuntime) -> Result<(), Fail> {
+    let inputs: [(Tool, &[u8], usize); 4] = [
+        (
+            Tool::Interval,
+            b"add,2,2\ndel,0,18446744073709551615\nsize\nany,5\nstab,5\nover,4,4\n",
+            6,
+        ),
+        (
+            Tool::Points,
+            b"add,1,2,3\nadd,1,2,3,4,5,6\ndel,1,2\ndel,1,2,3,4\nsize\nsum,9,1,0,5\nlist,0,9,0,9\n",
+            7,
+        ),
+        // a text may be empty, and a quoted one may have commas and line feeds
+        (
+            Tool::Index,
+            b"doc,0,\ndoc,1,\"To be,\nor not\"\nand,to\nor,To,B4,to\nwithout,to,to\ntop,0,be\n",
+            6,
+        ),
+        (
+            Tool::Graph,
+            b"add,1,1\nadd,1,2,3,4\ncut,1,2\nkeep\nsize\ndegree,1\nnow,1\nbfs,0,1\n",
+            8,
+        ),
+    ];
+    for (tool, input, count) in inputs {
+        assert_eq!(rt; read(rt.alloc(), tool, input), Ok(count));
+    }
+    Ok(())
+}
+
+#[test]
+fn the_first_bad_record_of_intervals_and_points(rt: HostRuntime) -> Result<(), Fail> {
+    let rows: [(Tool, &[u8], u64, Code); 14] = [
+        (Tool::Interval, b"add,1,2\nput,1,2\n", 2, Code::Verb),
+        (Tool::Interval, b"size,1\n", 1, Code::Fields),
+        (Tool::Interval, b"add,4,2,1\n", 1, Code::Fields),
+        (Tool::Interval, b"add,4,x\n", 1, Code::Number),
+        (Tool::Interval, b"add,4,2\n", 1, Code::Interval),
+        (Tool::Interval, b"del,4,2\n", 1, Code::Interval),
+        (Tool::Interval, b"size\nover,5,4\n", 2, Code::Interval),
+        (Tool::Points, b"get,1\n", 1, Code::Verb),
+        (Tool::Points, b"add\n", 1, Code::Fields),
+        (Tool::Points, b"add,1,2\n", 1, Code::Fields),
+        (Tool::Points, b"add,1,2,3,4,x\n", 1, Code::Fields),
+        (Tool::Points, b"add,1,2,3,4,5,x\n", 1, Code::Number),
+        (Tool::Points, b"del,1\n", 1, Code::Fields),
+        (Tool::Points, b"sum,0,9,0,09\n", 1, Code::Number),
+    ];
+    for (tool, input, place, code) in rows {
+        let bad = BadRecord { place, code };
+        assert_eq!(rt; read(rt.alloc(), tool, input), Err(ScriptFault::Bad(bad)));
+    }
+    Ok(())
+}
+
+#[test]
+fn the_first_bad_record_of_index_and_graph(rt: HostRuntime) -> Result<(), Fail> {
+    let rows: [(Tool, &[u8], u64, Code); 14] = [
+        (Tool::Index, b"doc,1\n", 1, Code::Fields),
+        (Tool::Index, b"doc,x,text\n", 1, Code::Number),
+        (Tool::Index, b"and\n", 1, Code::Fields),
+        (Tool::Index, b"and,to,a-b\n", 1, Code::Term),
+        (Tool::Index, b"or,to\nor,to,\n", 2, Code::Term),
+        (Tool::Index, b"without,to\n", 1, Code::Fields),
+        (Tool::Index, b"without,to,\xC3\xA9\n", 1, Code::Term),
+        (Tool::Index, b"top,x,-\n", 1, Code::Number),
+        (Tool::Graph, b"keep\nadd,1\n", 2, Code::Fields),
+        (Tool::Graph, b"keep,1\n", 1, Code::Fields),
+        (Tool::Graph, b"cut\n", 1, Code::Fields),
+        (Tool::Graph, b"cut,1,2,3\n", 1, Code::Fields),
+        (Tool::Graph, b"degree,x\n", 1, Code::Number),
+        (Tool::Graph, b"bfs,1\n", 1, Code::Fields),
+    ];
+    for (tool, input, place, code) in rows {
+        let bad = BadRecord { place, code };
+        assert_eq!(rt; read(rt.alloc(), tool, input), Err(ScriptFault::Bad(bad)));
     }
     Ok(())
 }

@@ -1,6 +1,14 @@
+use Rattle.script.proofs.IndexFacts.{all_terms}
+use Rattle.script.proofs.IntervalFacts.{all_ordered}
 use Rattle.script.proofs.RegisterFacts.{all_lawful}
 use Rattle.script.specs.Records.{records_of}
 use Rattle.script.proofs.parsed.commands.Goals as goal
 
-pub returns-in_ok-read_all-in-Map-clause-registers : goal.returns-in_ok-read_all-in-Map-clause-registers
-returns-in_ok-read_all-in-Map-clause-registers c = rw c.in_ok-read_all-in-Map.ensures at (all_lawful 1 (records_of c.args.bytes.now))
+pub returns-in_ok-read_all-in-Map-clause-lawful : goal.returns-in_ok-read_all-in-Map-clause-lawful
+returns-in_ok-read_all-in-Map-clause-lawful c = rw c.in_ok-read_all-in-Map.ensures at (all_lawful 1 (records_of c.args.bytes.now))
+
+pub returns-in_ok-read_all-in-Interval-clause-lawful : goal.returns-in_ok-read_all-in-Interval-clause-lawful
+returns-in_ok-read_all-in-Interval-clause-lawful c = rw c.in_ok-read_all-in-Interval.ensures at (all_ordered 1 (records_of c.args.bytes.now))
+
+pub returns-in_ok-read_all-in-Index-clause-lawful : goal.returns-in_ok-read_all-in-Index-clause-lawful
+returns-in_ok-read_all-in-Index-clause-lawful c = rw c.in_ok-read_all-in-Index.ensures at (all_terms 1 (records_of c.args.bytes.now))

@@ -3,7 +3,7 @@ use Rattle.std.specs.Result.{is_ok}
 use Rattle.std.proofs.lemmas.Result.{err_from_is_err_and}
 use Rattle.csv.specs.Records.{fields_of}
 use Rattle.script.proofs.ListFacts.{numbers-bad, numbers-end, numbers-more}
-use Rattle.script.proofs.fields.numbers_from.Goals as goal
+use Rattle.script.proofs.lists.numbers_from.Goals as goal
 
 pub loop-place-preserved : goal.loop-place-preserved
 loop-place-preserved c =

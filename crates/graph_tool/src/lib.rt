@@ -1,0 +1,6 @@
+//! The commands of the tool graph, run on the present graph and the kept ones.
+#![tactic(auto)]
+
+mod running;
+
+pub use running::run_graph;

@@ -1,0 +1,34 @@
+-- What the commands of the tool index do to the documents, and what they reply.
+use Rattle.std.specs.Prelude.{ℕ, List, [], ◌∷◌, map, length, codes, slice_index_or, if◌then◌else◌}
+use Rattle.std.specs.List.{flat_map}
+use Rattle.std.specs.Ordering.{nat_cmp}
+use Rattle.map_model.specs.Entries.{set}
+use Rattle.script.specs.Lines.{line_of}
+use Rattle.script.specs.declared.index.IndexCommand.{IndexCommand}
+use Rattle.script.specs.declared.index.IndexCommand.TheVariants as command
+use Rattle.inverted_index.specs.Terms.{small, weights_of}
+use Rattle.inverted_index.specs.Queries.{Document, is_known, all_of, any_of, without, top}
+
+-- how many documents there are, and then the number and the weight of each
+abbrev pub docs_line : List (ℕ × ℕ) → List ℕ
+docs_line answers = line_of (codes "docs") (length answers ∷ flat_map (λ a. a.0 ∷ a.1 ∷ []) answers)
+
+-- a term as it is named, made small
+abbrev pub named : List (List ℕ) → ℕ → List ℕ
+named terms at = small (slice_index_or terms at [])
+
+-- the documents after a command
+abbrev pub index_after : List Document → IndexCommand → List Document
+index_after ds (command.Doc place i text) = if is_known ds i then ds else set nat_cmp ds i (weights_of text)
+index_after ds (command.And place terms) = ds
+index_after ds (command.Or place terms) = ds
+index_after ds (command.Without place terms) = ds
+index_after ds (command.Top place i term) = ds
+
+abbrev pub index_reply : List Document → IndexCommand → List ℕ
+index_reply ds (command.Doc place i text) =
+    if is_known ds i then line_of (codes "known") [] else line_of (codes "ok") (length (weights_of text) ∷ [])
+index_reply ds (command.And place terms) = docs_line (all_of ds (map small terms))
+index_reply ds (command.Or place terms) = docs_line (any_of ds (map small terms))
+index_reply ds (command.Without place terms) = docs_line (without ds (named terms 0) (named terms 1))
+index_reply ds (command.Top place i term) = docs_line (top ds i (small term))

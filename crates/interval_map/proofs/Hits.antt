@@ -1,0 +1,71 @@
+-- Intervals by where they begin and end.
+use Rattle.std.proofs.Common.{◌≡◌, ℕ, ◌-◌, ◌^◌, ◌<◌, ◌&&◌, ◌||◌, ◌↔◌, IsTrue, Bool, true, false, cond, List, [], ◌∷◌, None, Some, nat_le, refl, ap, ◌∙◌, arith}
+use Rattle.std.proofs.lemmas.Bool.Decides.{nat_tests}
+use Rattle.std.specs.List.{AllByRecursion, filter}
+use Rattle.std.specs.Map.{keys_of}
+use Rattle.std.specs.Ordering.{is_ge, is_le, nat_cmp}
+use Rattle.aug_monoid.specs.Exact.{pair64_cmp}
+use Rattle.aug_monoid.specs.Greatest.{greater_of}
+use Rattle.aug_monoid.specs.declared.pair64.Pair64.{Pair64}
+use Rattle.map_model.specs.Fold.{aug_filter, fold_of}
+use Rattle.map_model.specs.Parts.{left_of, slice}
+use Rattle.interval_map.specs.Ends.{reaches, reaches_either}
+use Rattle.interval_map.specs.Intervals.{IsInterval, interval, overlap, stab}
+
+-- an interval is at most the one that begins at p and ends last where it begins at most at p
+begins_by : (p : ℕ) (i : Pair64) → i.second < 2 ^ 64 → is_le (pair64_cmp i (interval p (2 ^ 64 - 1))) ≡ nat_le i.first p
+begins_by p i h = grind (arith, nat_tests)
+
+-- no interval is less than the least one
+begins_from : (i : Pair64) → is_ge (pair64_cmp i (interval 0 0)) ≡ true
+begins_from i = grind (arith, nat_tests)
+
+-- whether a list has an item
+abbrev some_of : {X : Type 0} → List X → Bool
+some_of [] = false
+some_of (x ∷ xs) = true
+
+some_of_is : {X : Type 0} (xs : List X) → (some_of xs ≡ true) ↔ ¬ (xs ≡ [])
+some_of_is [] = (λ h. cc, λ h. absurd (h refl))
+some_of_is (x ∷ xs) = (λ h e. cc, λ h. refl)
+
+module _ {V : Type 0} where
+  -- the intervals that begin at most at hi, and of these the ones that end at least at lo
+  pub keys-overlap : (m : List (Pair64 × V)) (lo hi : ℕ) → AllByRecursion IsInterval (keys_of m)
+      → keys_of (aug_filter (λ key _. Some key.second) (reaches lo) (slice pair64_cmp m (interval 0 0) (interval hi (2 ^ 64 - 1)))) ≡ overlap (keys_of m) lo hi
+  keys-overlap [] lo hi a = refl
+  keys-overlap (e ∷ m) lo hi a =
+      let rest = keys-overlap m lo hi a.1 in
+      rw (begins_from e.0, begins_by hi e.0 a.0.1) (elim (nat_le e.0.first hi) as (λ b.
+          keys_of (aug_filter (λ key _. Some key.second) (reaches lo) (cond b (e ∷ slice pair64_cmp m (interval 0 0) (interval hi (2 ^ 64 - 1))) (slice pair64_cmp m (interval 0 0) (interval hi (2 ^ 64 - 1)))))
+          ≡ cond (b && nat_le lo e.0.second) (e.0 ∷ overlap (keys_of m) lo hi) (overlap (keys_of m) lo hi)) [
+        | true ↦ elim (nat_le lo e.0.second) as (λ b.
+            keys_of (cond b (e ∷ aug_filter (λ key _. Some key.second) (reaches lo) (slice pair64_cmp m (interval 0 0) (interval hi (2 ^ 64 - 1)))) (aug_filter (λ key _. Some key.second) (reaches lo) (slice pair64_cmp m (interval 0 0) (interval hi (2 ^ 64 - 1)))))
+            ≡ cond b (e.0 ∷ overlap (keys_of m) lo hi) (overlap (keys_of m) lo hi)) [
+          | true ↦ ap (λ is. e.0 ∷ is) rest
+          | false ↦ rest
+        ]
+        | false ↦ rest
+      ])
+
+  -- whether the greatest right end of the intervals that begin at most at p is at least p
+  abbrev pub covers : List (Pair64 × V) → ℕ → Bool
+  covers m p = reaches p (fold_of (λ key _. Some key.second) None greater_of (left_of pair64_cmp m (interval p (2 ^ 64 - 1))))
+
+  covers_is : (m : List (Pair64 × V)) (p : ℕ) → AllByRecursion IsInterval (keys_of m) → covers m p ≡ some_of (stab (keys_of m) p)
+  covers_is [] p a = refl
+  covers_is (e ∷ m) p a =
+      let rest = covers_is m p a.1 in
+      let fold = fold_of (λ (key : Pair64) (_ : V). Some key.second) None greater_of (left_of pair64_cmp m (interval p (2 ^ 64 - 1))) in
+      rw (begins_by p e.0 a.0.1) (elim (nat_le e.0.first p) as (λ b.
+          reaches p (fold_of (λ key _. Some key.second) None greater_of (cond b (e ∷ left_of pair64_cmp m (interval p (2 ^ 64 - 1))) (left_of pair64_cmp m (interval p (2 ^ 64 - 1)))))
+          ≡ some_of (cond (b && nat_le p e.0.second) (e.0 ∷ stab (keys_of m) p) (stab (keys_of m) p))) [
+        | true ↦ reaches_either p (Some e.0.second) fold tt tt ∙ elim (nat_le p e.0.second) as (λ b. (b || reaches p fold) ≡ some_of (cond b (e.0 ∷ stab (keys_of m) p) (stab (keys_of m) p))) [
+          | true ↦ refl
+          | false ↦ rest
+        ]
+        | false ↦ rest
+      ])
+
+  pub covers_hits : (m : List (Pair64 × V)) (p : ℕ) (answer : Bool) → AllByRecursion IsInterval (keys_of m) → answer ≡ covers m p → IsTrue answer ↔ ¬ (stab (keys_of m) p ≡ [])
+  covers_hits m p answer a is = rw (is, covers_is m p a) (some_of_is (stab (keys_of m) p))

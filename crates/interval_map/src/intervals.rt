@@ -1,0 +1,80 @@
+//! Sets of intervals, and what they tell without a walk.
+ghost use Rattle.std.specs.Prelude.{◌≡◌, [], length};
+ghost use Rattle.std.specs.Map.{keys_of};
+ghost use Rattle.interval_map.specs.Intervals.{IsIntervals, interval};
+
+use aug_map::PlainMap;
+use aug_monoid::{MaxRight, NoMemory, Pair64, Share};
+use std::alloc::Global;
+use std::marker::Model;
+
+/// The map whose keys are intervals, with their greatest right end.
+pub(crate) type IntervalMap = PlainMap<MaxRight>;
+
+/// A persistent set of intervals, each from its left end to its right end, both included. Contracts see it as the list of the
+/// intervals by left end and then by right end.
+#[derive(Drop)]
+pub struct Intervals {
+    pub(crate) map: IntervalMap,
+}
+
+impl Model for Intervals {
+    ghost use Rattle.std.specs.Prelude.{List};
+    ghost use Rattle.aug_monoid.specs.declared.pair64.Pair64.{Pair64};
+
+    ghost Value = { List Pair64 };
+
+    ghost use Rattle.std.specs.List.{AllByRecursion};
+    ghost use Rattle.std.specs.Map.{keys_of};
+    ghost use Rattle.interval_map.specs.Intervals.{IsInterval};
+
+    ghost view = { λ s. keys_of s.map.entries };
+
+    ghost invariant = { λ s. AllByRecursion IsInterval (keys_of s.map.entries) };
+}
+
+/// The interval from a left end to a right end.
+pub(crate) fn interval(left: u64, right: u64) -> Pair64
+    ensures { result ≡ interval left right }
+{
+    Pair64 {
+        first: left,
+        second: right,
+    }
+}
+
+impl Intervals {
+    /// The set of no intervals. It takes no memory.
+    pub fn new() -> Intervals
+        ensures { result ≡ [] }
+    {
+        Intervals {
+            map: IntervalMap::empty(),
+        }
+    }
+
+    /// How many intervals there are.
+    #[tactic(auto, using(crate::proofs::Keys::keys_are, crate::proofs::Keys::keys_count))]
+    pub fn size(&self) -> u64
+        ensures value { result ≡ length self.now }
+        ensures intervals { IsIntervals self.now }
+    {
+        self.map.size()
+    }
+
+    /// Lends the map whose keys are the intervals.
+    pub fn map(&self) -> &PlainMap<MaxRight>
+        ensures { keys_of result.now.entries ≡ self.now }
+    {
+        &self.map
+    }
+}
+
+impl Share for Intervals {
+    ghost never_refuses = { ⊥ };
+
+    fn share(&self, alloc: Global) -> Result<Intervals, NoMemory> {
+        let map = self.map.share(alloc)?;
+        Ok(Intervals { map })
+    }
+}

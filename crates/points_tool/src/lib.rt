@@ -1,0 +1,6 @@
+//! The tool points: what its commands do to points in the plane.
+#![tactic(auto)]
+
+mod running;
+
+pub use running::run_points;

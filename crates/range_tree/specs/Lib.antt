@@ -1,0 +1,6 @@
+pub mod Places
+pub mod Rows
+pub mod Points
+pub mod Totals
+
+pub mod Listings
