@@ -5,7 +5,7 @@ ghost use Rattle.map_model.specs.Entries.{IsIncreasing, drop_key};
 
 use crate::leaves::without_place;
 use aug_monoid::{Augment, Key, Leaf, NoMemory, Share, Steps};
-use join_core::{Part, another_owner, join, join2};
+use join_core::{Part, another_owner, join2, join_owned};
 use std::alloc::Global;
 use std::cmp::Ordering;
 use std::sync::ledger::Ledger;
@@ -70,14 +70,16 @@ fn del_in<A: Augment, L: Leaf<A::Key, A::Val>, S: BlockSize, C: Ledger>(
                 let left = del_in(alloc, Part { tree: left }, key, steps)?;
                 let node_key = node_key.share(alloc)?;
                 let node_val = node_val.share(alloc)?;
-                join(alloc, &left, node_key, node_val, right, steps)
+                let other = another_owner(alloc, right)?;
+                join_owned(alloc, left, node_key, node_val, other, steps)
             }
             Ordering::Equal => join2(alloc, left, right, steps),
             Ordering::Greater => {
                 let right = del_in(alloc, Part { tree: right }, key, steps)?;
                 let node_key = node_key.share(alloc)?;
                 let node_val = node_val.share(alloc)?;
-                join(alloc, left, node_key, node_val, &right, steps)
+                let other = another_owner(alloc, left)?;
+                join_owned(alloc, other, node_key, node_val, right, steps)
             }
         },
     }

@@ -6,27 +6,27 @@ use Rattle.map_model.proofs.Cuts.{drop_sizes}
 use Rattle.tree_points.proofs.Costs.{level_more, less_is_near}
 use Rattle.tree_points.proofs.dels.+del_in.Goals as goal
 
-pub join-requires-clause-below : goal.join-requires-clause-below
-join-requires-clause-below g t c =
+pub join_owned-requires-clause-below : goal.join_owned-requires-clause-below
+join_owned-requires-clause-below g t c =
     rw (c.in_ok-left-in-Less.ensures.entries, c.in_ok-node_key-in-Less.ensures.value)
     (AllKeys-filter (λ k. g.A.Key.Ord.cmp k c.in-Node.node_key.now ≡ Less) _ c.in-Node.left.now.entries (around _ _ _ _ _ c.in-Node.ensures.top.increasing).lower)
 
-pub join-requires-clause-above : goal.join-requires-clause-above
-join-requires-clause-above g t c = rw c.in_ok-node_key-in-Less.ensures.value (around _ _ _ _ _ c.in-Node.ensures.top.increasing).upper
+pub join_owned-requires-clause-above : goal.join_owned-requires-clause-above
+join_owned-requires-clause-above g t c = rw (c.in_ok-other-in-Less.ensures, c.in_ok-node_key-in-Less.ensures.value) (around _ _ _ _ _ c.in-Node.ensures.top.increasing).upper
 
-pub returns-in_ok-node_val-in-Less-clause-entries : goal.returns-in_ok-node_val-in-Less-clause-entries
-returns-in_ok-node_val-in-Less-clause-entries g t c =
+pub returns-in_ok-other-in-Less-clause-entries : goal.returns-in_ok-other-in-Less-clause-entries
+returns-in_ok-other-in-Less-clause-entries g t c =
     let total = g.met.A.Key.Ord.total in
     let shape = c.in-Node.ensures.top in
     rw (shape.entries_are, drop_key-around_less total c.in-Node.left.now.entries c.in-Node.node_key.now c.in-Node.node_val.now c.in-Node.right.now.entries c.args.key.now shape.increasing (sym c.in-Less.ensures.value))
-    (rw (c.in_ok-left-in-Less.ensures.entries, c.in_ok-node_key-in-Less.ensures.value, c.in_ok-node_val-in-Less.ensures.value) at c.join.ensures.entries)
+    (rw (c.in_ok-left-in-Less.ensures.entries, c.in_ok-node_key-in-Less.ensures.value, c.in_ok-node_val-in-Less.ensures.value, c.in_ok-other-in-Less.ensures) at c.join_owned.ensures.entries)
 
-pub returns-in_ok-node_val-in-Less-clause-cost : goal.returns-in_ok-node_val-in-Less-clause-cost
-returns-in_ok-node_val-in-Less-clause-cost g t c =
+pub returns-in_ok-other-in-Less-clause-cost : goal.returns-in_ok-other-in-Less-clause-cost
+returns-in_ok-other-in-Less-clause-cost g t c =
     let shape = c.in-Node.ensures.top in
     let sizes = drop_sizes g.met.A.Key.Ord.total g.met.A.Key.Key.exact c.in-Node.left.now.entries c.args.key.now (around _ _ _ _ _ shape.increasing).left in
     let near = less_is_near (length c.in-Node.left.now.entries) _ (length c.in-Node.right.now.entries) shape.balanced sizes.0 sizes.1 in
-    let joined = rw c.in_ok-left-in-Less.ensures.entries at c.join.ensures.cost in
+    let joined = rw (c.in_ok-left-in-Less.ensures.entries, c.in_ok-other-in-Less.ensures) at c.join_owned.ensures.cost in
     let level = level_more c.in-Node.left.now.height c.args.part.tree.now.height g.S.BlockSize.SIZE (omega (arith, shape.height_is)) in
     omega (arith, level, joined near.0 near.1, c.in_ok-left-in-Less.ensures.cost, c.order.ensures.one_step)
 
@@ -47,26 +47,26 @@ returns-in-Equal-clause-cost g t c =
     let level = level_more c.in-Node.right.now.height c.args.part.tree.now.height g.S.BlockSize.SIZE (omega (arith, shape.height_is)) in
     omega (arith, level, c.join2.ensures.cost shape.balanced, c.order.ensures.one_step)
 
-pub join-requires-in-Greater-clause-below : goal.join-requires-in-Greater-clause-below
-join-requires-in-Greater-clause-below g t c = rw c.in_ok-node_key-in-Greater.ensures.value (around _ _ _ _ _ c.in-Node.ensures.top.increasing).lower
+pub join_owned-requires-in-Greater-clause-below : goal.join_owned-requires-in-Greater-clause-below
+join_owned-requires-in-Greater-clause-below g t c = rw (c.in_ok-other-in-Greater.ensures, c.in_ok-node_key-in-Greater.ensures.value) (around _ _ _ _ _ c.in-Node.ensures.top.increasing).lower
 
-pub join-requires-in-Greater-clause-above : goal.join-requires-in-Greater-clause-above
-join-requires-in-Greater-clause-above g t c =
+pub join_owned-requires-in-Greater-clause-above : goal.join_owned-requires-in-Greater-clause-above
+join_owned-requires-in-Greater-clause-above g t c =
     rw (c.in_ok-right-in-Greater.ensures.entries, c.in_ok-node_key-in-Greater.ensures.value)
     (AllKeys-filter (λ k. g.A.Key.Ord.cmp c.in-Node.node_key.now k ≡ Less) _ c.in-Node.right.now.entries (around _ _ _ _ _ c.in-Node.ensures.top.increasing).upper)
 
-pub returns-in_ok-node_val-in-Greater-clause-entries : goal.returns-in_ok-node_val-in-Greater-clause-entries
-returns-in_ok-node_val-in-Greater-clause-entries g t c =
+pub returns-in_ok-other-in-Greater-clause-entries : goal.returns-in_ok-other-in-Greater-clause-entries
+returns-in_ok-other-in-Greater-clause-entries g t c =
     let total = g.met.A.Key.Ord.total in
     let shape = c.in-Node.ensures.top in
     rw (shape.entries_are, drop_key-around_greater total c.in-Node.left.now.entries c.in-Node.node_key.now c.in-Node.node_val.now c.in-Node.right.now.entries c.args.key.now shape.increasing (sym c.in-Greater.ensures.value))
-    (rw (c.in_ok-right-in-Greater.ensures.entries, c.in_ok-node_key-in-Greater.ensures.value, c.in_ok-node_val-in-Greater.ensures.value) at c.join-in-Greater.ensures.entries)
+    (rw (c.in_ok-right-in-Greater.ensures.entries, c.in_ok-node_key-in-Greater.ensures.value, c.in_ok-node_val-in-Greater.ensures.value, c.in_ok-other-in-Greater.ensures) at c.join_owned-in-Greater.ensures.entries)
 
-pub returns-in_ok-node_val-in-Greater-clause-cost : goal.returns-in_ok-node_val-in-Greater-clause-cost
-returns-in_ok-node_val-in-Greater-clause-cost g t c =
+pub returns-in_ok-other-in-Greater-clause-cost : goal.returns-in_ok-other-in-Greater-clause-cost
+returns-in_ok-other-in-Greater-clause-cost g t c =
     let shape = c.in-Node.ensures.top in
     let sizes = drop_sizes g.met.A.Key.Ord.total g.met.A.Key.Key.exact c.in-Node.right.now.entries c.args.key.now (around _ _ _ _ _ shape.increasing).right in
     let near = less_is_near (length c.in-Node.right.now.entries) _ (length c.in-Node.left.now.entries) (shape.balanced.1, shape.balanced.0) sizes.0 sizes.1 in
-    let joined = rw c.in_ok-right-in-Greater.ensures.entries at c.join-in-Greater.ensures.cost in
+    let joined = rw (c.in_ok-right-in-Greater.ensures.entries, c.in_ok-other-in-Greater.ensures) at c.join_owned-in-Greater.ensures.cost in
     let level = level_more c.in-Node.right.now.height c.args.part.tree.now.height g.S.BlockSize.SIZE (omega (arith, shape.height_is)) in
     omega (arith, level, joined near.1 near.0, c.in_ok-right-in-Greater.ensures.cost, c.order.ensures.one_step)
