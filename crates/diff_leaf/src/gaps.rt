@@ -66,7 +66,20 @@ pub(crate) fn place_at<V: ValueCode>(gaps: &Gaps, index: u64) -> Walk
     ensures place { IsPlaceOf V.bytes_of (entries_in V.bytes_of V.value_of gaps.now) result }
     ensures index { result.index ≡ index }
 {
-    let mut place = first_place::<V>(gaps);
+    let first = first_place::<V>(gaps);
+    place_from::<V>(gaps, &first, index)
+}
+
+/// The place before the entry of an index, reached from an earlier place.
+pub(crate) fn place_from<V: ValueCode>(gaps: &Gaps, from: &Walk, index: u64) -> Walk
+    requires gaps { IsGaps V.fits_bytes V.bytes_of V.value_of gaps.now }
+    requires from { IsPlaceOf V.bytes_of (entries_in V.bytes_of V.value_of gaps.now) from.now }
+    requires order { from.now.index ≤ index }
+    requires inside { index ≤ gaps.now.len }
+    ensures place { IsPlaceOf V.bytes_of (entries_in V.bytes_of V.value_of gaps.now) result }
+    ensures index { result.index ≡ index }
+{
+    let mut place = *from;
     while place.index < index {
         place = entry_at::<V>(gaps, &place).next;
     }

@@ -3,7 +3,6 @@ ghost use Rattle.std.specs.Prelude.{◌≡◌, ◌+◌, ◌*◌, ◌≤◌, IfOk
 ghost use Rattle.map_model.specs.Balance.{IsBlockSize};
 ghost use Rattle.map_model.specs.Entries.{IsIncreasing, drop_key};
 
-use crate::leaves::without_place;
 use aug_monoid::{Augment, Key, Leaf, NoMemory, Share, Steps};
 use join_core::{Part, another_owner, join2, join_owned};
 use std::alloc::Global;
@@ -30,7 +29,7 @@ fn del_in_block<A: Augment, L: Leaf<A::Key, A::Val>, S: BlockSize, C: Ledger>(
     if !place.hit {
         return another_owner(alloc, tree);
     }
-    let rest = without_place(alloc, leaf, place.at, key)?;
+    let rest = leaf.without(alloc, place.at)?;
     TreeOver::from_leaf(alloc, rest, steps)
 }
 
