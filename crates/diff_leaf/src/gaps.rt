@@ -6,7 +6,8 @@ ghost use Rattle.diff_leaf.specs.Stored.{entries_in, IsGaps, IsGapsOf, IsPlaceOf
 
 use crate::number::number_at;
 use crate::value_code::ValueCode;
-use aug_monoid::{Seek, Steps, Walk};
+use aug_monoid::{Key, Seek, Steps, Walk};
+use std::cmp::Ordering;
 use std::sync::ledger::Ledger;
 
 /// The bytes of some entries, their number and their last key.
@@ -109,14 +110,21 @@ pub(crate) fn seek_key<V: ValueCode, C: Ledger>(gaps: &Gaps, key: u64, steps: &m
     let mut place = first_place::<V>(gaps);
     while place.index < gaps.len {
         let found = entry_at::<V>(gaps, &place);
-        steps.tick();
-        if found.key >= key {
-            return Seek {
-                at: place.index,
-                hit: found.key == key,
-            };
+        match found.key.order(&key, steps) {
+            Ordering::Less => place = found.next,
+            Ordering::Equal => {
+                return Seek {
+                    at: place.index,
+                    hit: true,
+                };
+            }
+            Ordering::Greater => {
+                return Seek {
+                    at: place.index,
+                    hit: false,
+                };
+            }
         }
-        place = found.next;
     }
     Seek {
         at: place.index,
