@@ -1,5 +1,5 @@
 -- The code of entries, parted and read.
-use Rattle.std.proofs.Common.{◌≡◌, ℕ, zero, suc, ◌+◌, ◌-◌, ◌<◌, List, [], ◌∷◌, ◌++◌, length, take, drop, refl, sym, ap, ◌∙◌, arith, append_assoc, Some}
+use Rattle.std.proofs.Common.{◌≡◌, ℕ, zero, suc, ◌+◌, ◌-◌, ◌<◌, ◌≤◌, List, [], ◌∷◌, ◌++◌, length, take, drop, refl, sym, ap, ◌∙◌, arith, append_assoc, Some}
 use Rattle.std.proofs.lemmas.List.{drop_at}
 use Rattle.std.specs.List.{slice_get}
 use Rattle.std.specs.Ordering.{nat_cmp}
@@ -33,6 +33,10 @@ module _ {V : Type 0} (Fits : V → Type 0) where
   pub codable_back : (l r : List (ℕ × V)) (before : ℕ) → AreCodable Fits before (l ++ r) → AreCodable Fits (last_key before l) r
   codable_back [] r before a = a
   codable_back (e ∷ l) r before a = codable_back l r e.0 a.3
+
+  pub codable_lower : (es : List (ℕ × V)) (low before : ℕ) → low ≤ before → AreCodable Fits before es → AreCodable Fits low es
+  codable_lower [] low before h a = tt
+  codable_lower (e ∷ es) low before h a = (omega (arith, h, a.0), a.1, a.2, a.3)
 
   pub codable_anew : (es : List (ℕ × V)) (before : ℕ) → AreCodable Fits before es → AreCodable Fits 0 es
   codable_anew [] before a = tt

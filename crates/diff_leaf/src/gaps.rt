@@ -6,7 +6,8 @@ ghost use Rattle.diff_leaf.specs.Stored.{entries_in, IsGaps, IsGapsOf, IsPlaceOf
 
 use crate::number::number_at;
 use crate::value_code::ValueCode;
-use aug_monoid::{Seek, Steps, Walk};
+use aug_monoid::{Key, Seek, Steps, Walk};
+use std::cmp::Ordering;
 use std::sync::ledger::Ledger;
 
 /// The bytes of some entries, their number and their last key.
@@ -66,7 +67,20 @@ pub(crate) fn place_at<V: ValueCode>(gaps: &Gaps, index: u64) -> Walk
     ensures place { IsPlaceOf V.bytes_of (entries_in V.bytes_of V.value_of gaps.now) result }
     ensures index { result.index ≡ index }
 {
-    let mut place = first_place::<V>(gaps);
+    let first = first_place::<V>(gaps);
+    place_from::<V>(gaps, &first, index)
+}
+
+/// The place before the entry of an index, reached from an earlier place.
+pub(crate) fn place_from<V: ValueCode>(gaps: &Gaps, from: &Walk, index: u64) -> Walk
+    requires gaps { IsGaps V.fits_bytes V.bytes_of V.value_of gaps.now }
+    requires from { IsPlaceOf V.bytes_of (entries_in V.bytes_of V.value_of gaps.now) from.now }
+    requires order { from.now.index ≤ index }
+    requires inside { index ≤ gaps.now.len }
+    ensures place { IsPlaceOf V.bytes_of (entries_in V.bytes_of V.value_of gaps.now) result }
+    ensures index { result.index ≡ index }
+{
+    let mut place = *from;
     while place.index < index {
         place = entry_at::<V>(gaps, &place).next;
     }
@@ -96,14 +110,21 @@ pub(crate) fn seek_key<V: ValueCode, C: Ledger>(gaps: &Gaps, key: u64, steps: &m
     let mut place = first_place::<V>(gaps);
     while place.index < gaps.len {
         let found = entry_at::<V>(gaps, &place);
-        steps.tick();
-        if found.key >= key {
-            return Seek {
-                at: place.index,
-                hit: found.key == key,
-            };
+        match found.key.order(&key, steps) {
+            Ordering::Less => place = found.next,
+            Ordering::Equal => {
+                return Seek {
+                    at: place.index,
+                    hit: true,
+                };
+            }
+            Ordering::Greater => {
+                return Seek {
+                    at: place.index,
+                    hit: false,
+                };
+            }
         }
-        place = found.next;
     }
     Seek {
         at: place.index,

@@ -2,7 +2,7 @@
 ghost use Rattle.std.specs.Prelude.{◌≡◌};
 ghost use Rattle.diff_leaf.specs.Code.{code};
 
-use crate::build::{concat, cut, encode};
+use crate::build::{concat, cut, encode, splice, without};
 use crate::gaps::{Gaps, entry_at, first_place, get_entry, seek_key};
 use crate::value_code::ValueCode;
 use aug_monoid::{Leaf, NoMemory, Seek, Steps, Walk};
@@ -12,8 +12,8 @@ use std::sync::ledger::Ledger;
 
 /// A block of number keys: for each entry the gap from the key before, in LEB128, and then the
 /// bytes of its value. `seek` and `get_at` walk over the bytes, in at most 256 comparisons of keys
-/// where there are at most 256 entries. `cut_at` and `concat3` copy runs of bytes, and code only
-/// the key after the cut anew.
+/// where there are at most 256 entries. A cut or a change copies runs of bytes, and codes only the
+/// new entry and the key after it anew.
 #[derive(Drop)]
 pub struct DiffLeaf<V: ValueCode> {
     gaps: Gaps,
@@ -108,6 +108,29 @@ impl<V: ValueCode> Leaf<u64, V> for DiffLeaf<V> {
         right: &DiffLeaf<V>,
     ) -> Result<DiffLeaf<V>, NoMemory> {
         let gaps = concat::<V>(alloc, &self.gaps, key, &val, &right.gaps)?;
+        Ok(DiffLeaf {
+            gaps,
+            values: PhantomData,
+        })
+    }
+
+    fn splice(
+        &self,
+        alloc: Global,
+        at: u64,
+        upto: u64,
+        key: u64,
+        val: V,
+    ) -> Result<DiffLeaf<V>, NoMemory> {
+        let gaps = splice::<V>(alloc, &self.gaps, at, upto, key, &val)?;
+        Ok(DiffLeaf {
+            gaps,
+            values: PhantomData,
+        })
+    }
+
+    fn without(&self, alloc: Global, at: u64) -> Result<DiffLeaf<V>, NoMemory> {
+        let gaps = without::<V>(alloc, &self.gaps, at)?;
         Ok(DiffLeaf {
             gaps,
             values: PhantomData,

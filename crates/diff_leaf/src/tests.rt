@@ -90,3 +90,22 @@ fn a_value_after_each_gap(rt: HostRuntime) -> Result<(), NoMemory> {
     );
     Ok(())
 }
+
+#[test]
+fn the_key_after_a_change_is_coded_anew(rt: HostRuntime) -> Result<(), NoMemory> {
+    let alloc = rt.alloc();
+    let leaf = DiffLeaf::<u64>::from_entries(alloc, &[(5, 1), (7, 2), (300, 3)])?;
+    let inserted = leaf.splice(alloc, 2, 2, 9, 4)?;
+    let bytes = [0x05, 0x01, 0x02, 0x02, 0x02, 0x04, 0xa3, 0x02, 0x03];
+    assert_eq!(rt; inserted.code(), bytes.as_slice());
+    let replaced = leaf.splice(alloc, 1, 2, 7, 8)?;
+    let bytes = [0x05, 0x01, 0x02, 0x08, 0xa5, 0x02, 0x03];
+    assert_eq!(rt; replaced.code(), bytes.as_slice());
+    let rest = leaf.without(alloc, 1)?;
+    assert_eq!(rt; rest.code(), [0x05, 0x01, 0xa7, 0x02, 0x03].as_slice());
+    assert_eq!(rt;
+        walked(alloc, &rest)?.as_slice(),
+        [(5, 1), (300, 3)].as_slice()
+    );
+    Ok(())
+}

@@ -1,5 +1,5 @@
 -- One turn of a merge of two increasing slices into a list.
-use Rattle.std.proofs.Common.{◌≡◌, List, [], ◌∷◌, ◌++◌, refl, sym, ap, ap₂, subst, ◌∙◌, append_assoc, append-nil, length, arith}
+use Rattle.std.proofs.Common.{◌≡◌, List, [], ◌∷◌, ◌++◌, refl, sym, ap, ap₂, subst, ◌∙◌, append_assoc, append-nil}
 use Rattle.std.specs.declared.cmp.Ordering.{Ordering}
 use Rattle.std.specs.declared.cmp.Ordering.TheVariants.{Less, Equal, Greater}
 use Rattle.std.specs.Cmp.{IsTotalOrder}
@@ -8,11 +8,6 @@ use Rattle.map_model.specs.Entries.{IsIncreasing}
 use Rattle.map_model.specs.SetOperations.{union, intersect, difference}
 use Rattle.map_model.proofs.Unions.{nil-union}
 use Rattle.map_model.proofs.Merges.{union-cons_less, union-cons_equal, union-cons_greater, intersect-cons_less, intersect-cons_equal, intersect-cons_greater, difference-cons_less, difference-cons_equal, difference-cons_greater}
-
--- no entries
-pub none_left : {X : Type 0} (xs : List X) → length xs ≡ 0 → xs ≡ []
-none_left [] h = refl
-none_left (x ∷ xs) h = absurd (omega arith)
 
 -- what is out, and what of the two slices is still to come
 abbrev pub Merging : {K V : Type 0} → (K → K → Ordering) → (List (K × V) → List (K × V) → List (K × V)) → List (K × V) → List (K × V) → List (K × V) → List (K × V) → Type 0

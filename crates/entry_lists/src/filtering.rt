@@ -14,7 +14,7 @@ pub fn filtered_of<K: Share, V: Share, T: Test<K, V>>(
 ) -> Result<Vec<(K, V)>, NoMemory>
     ensures { IfOk result (λ v. v.items ≡ filter (λ e. T.passes test.now e.0 e.1) entries.now) }
 {
-    let mut out = Vec::new(alloc);
+    let mut out = Vec::with_capacity(alloc, entries.len())?;
     for entry in entries {
         if test.holds(&entry.0, &entry.1) {
             push_shared(alloc, &mut out, entry)?;

@@ -5,7 +5,7 @@ ghost use Rattle.map_model.specs.Entries.{AllAbove, AllBelow, IsIncreasing};
 ghost use Rattle.tree_base.specs.Shape.{link_cost};
 
 use crate::owners::Part;
-use crate::sizes::{are_small, weight_of};
+use crate::sizes::{are_balanced, are_small, weight_of};
 use crate::turns::{repair_left, repair_right};
 use aug_monoid::{Augment, Leaf, NoMemory, Share, Steps};
 use balance::link_here;
@@ -115,5 +115,28 @@ pub fn join<A: Augment, L: Leaf<A::Key, A::Val>, S: BlockSize, C: Ledger>(
             Part { tree: right },
             steps,
         )
+    }
+}
+
+/// The same as `join`, of trees that are given up. Where they are balanced, as mostly after a change of one entry in one of
+/// them, they become the sides of one node, and get no further owner.
+pub fn join_owned<A: Augment, L: Leaf<A::Key, A::Val>, S: BlockSize, C: Ledger>(
+    alloc: Global,
+    left: TreeOver<A, L, S>,
+    key: A::Key,
+    val: A::Val,
+    right: TreeOver<A, L, S>,
+    steps: &mut Steps<C>,
+) -> Result<TreeOver<A, L, S>, NoMemory>
+    requires below { AllBelow A.Key.cmp left.entries key }
+    requires above { AllAbove A.Key.cmp right.entries key }
+    ensures entries { IfOk result (λ tree. tree.entries ≡ left.entries ++ (key, val) ∷ right.entries) }
+    ensures cost { weight left.entries ≤ 3 * weight right.entries + 3 → weight right.entries ≤ 3 * weight left.entries + 3 → steps.new ≤ steps.old + 7 * link_cost S.SIZE }
+{
+    let _sizes = (left.size(), right.size());
+    if are_balanced(&left, &right) {
+        TreeOver::link_owned(alloc, left, key, val, right, steps)
+    } else {
+        join(alloc, &left, key, val, &right, steps)
     }
 }

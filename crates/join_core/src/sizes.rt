@@ -1,9 +1,10 @@
 //! Weights of trees.
-ghost use Rattle.std.specs.Prelude.{◌≡◌, ◌+◌, ◌*◌, ◌≤◌, ◌↔◌, IsTrue, length};
+ghost use Rattle.std.specs.Prelude.{◌≡◌, ◌+◌, ◌*◌, ◌<◌, ◌≤◌, ◌↔◌, IsTrue, length};
 ghost use Rattle.balance.specs.Turns.{IsWeight};
-ghost use Rattle.map_model.specs.Balance.{weight};
+ghost use Rattle.map_model.specs.Balance.{IsBalanced, weight};
 
 use aug_monoid::{Augment, Leaf};
+use balance::balanced;
 use tree_base::{BlockSize, TreeOver};
 
 /// The number of entries plus 1.
@@ -24,4 +25,15 @@ pub(crate) fn are_small<A: Augment, L: Leaf<A::Key, A::Val>, S: BlockSize>(
     ensures { IsTrue result ↔ (length left.now.entries + length right.now.entries + 1 ≤ 4 * S.SIZE) }
 {
     left.size() + right.size() < 4 * left.block_size()
+}
+
+/// Whether two trees and an entry are enough for a node over the two, which are balanced.
+pub(crate) fn are_balanced<A: Augment, L: Leaf<A::Key, A::Val>, S: BlockSize>(
+    left: &TreeOver<A, L, S>,
+    right: &TreeOver<A, L, S>,
+) -> bool
+    ensures large { IsTrue result → 4 * S.SIZE < length left.now.entries + length right.now.entries + 1 }
+    ensures balanced { IsTrue result → IsBalanced (weight left.now.entries) (weight right.now.entries) }
+{
+    !are_small(left, right) && balanced(weight_of(left), weight_of(right))
 }

@@ -9,8 +9,8 @@ use std::marker::Model;
 use std::sync::ledger::Ledger;
 
 /// A block as a vector of entries whose keys rise. It is searched by halves, in at most 9
-/// comparisons of keys where it has at most 256 entries. `cut_at`, `concat3` and `from_entries`
-/// allocate each vector once and share each entry once.
+/// comparisons of keys where it has at most 256 entries. Each call that makes a block allocates its
+/// vector once and shares each of its entries once.
 #[derive(Drop)]
 pub struct PlainLeaf<K: Key, V: Share> {
     entries: Vec<(K, V)>,
@@ -101,6 +101,32 @@ impl<K: Key, V: Share> Leaf<K, V> for PlainLeaf<K, V> {
         push_shares(alloc, &mut entries, &self.entries)?;
         entries.push_reserved((key, val));
         push_shares(alloc, &mut entries, &right.entries)?;
+        Ok(PlainLeaf { entries })
+    }
+
+    fn splice(
+        &self,
+        alloc: Global,
+        at: u64,
+        upto: u64,
+        key: K,
+        val: V,
+    ) -> Result<PlainLeaf<K, V>, NoMemory> {
+        let (front, _) = self.entries.split_at(at as usize);
+        let (_, back) = self.entries.split_at(upto as usize);
+        let mut entries = Vec::with_capacity(alloc, front.len() + 1 + back.len())?;
+        push_shares(alloc, &mut entries, front)?;
+        entries.push_reserved((key, val));
+        push_shares(alloc, &mut entries, back)?;
+        Ok(PlainLeaf { entries })
+    }
+
+    fn without(&self, alloc: Global, at: u64) -> Result<PlainLeaf<K, V>, NoMemory> {
+        let (front, _) = self.entries.split_at(at as usize);
+        let (_, back) = self.entries.split_at(at as usize + 1);
+        let mut entries = Vec::with_capacity(alloc, front.len() + back.len())?;
+        push_shares(alloc, &mut entries, front)?;
+        push_shares(alloc, &mut entries, back)?;
         Ok(PlainLeaf { entries })
     }
 }

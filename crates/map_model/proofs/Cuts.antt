@@ -1,13 +1,15 @@
 -- A list cut at an entry, or at the place of a key.
-use Rattle.std.proofs.Common.{◌≡◌, ℕ, ◌+◌, ◌<◌, ◌≤◌, List, [], ◌∷◌, ◌++◌, length, take, drop, Option, Some, None, Bool, true, false, cond, refl, sym, ap, ◌∙◌, subst, arith, append_assoc, length-append}
+use Rattle.std.proofs.Common.{◌≡◌, ℕ, ◌+◌, ◌<◌, ◌≤◌, zero, suc, List, [], ◌∷◌, ◌++◌, length, take, drop, take-append-drop, Option, Some, None, Bool, true, false, cond, refl, sym, ap, ◌∙◌, subst, arith, append_assoc, length-append}
 use Rattle.std.specs.List.{slice_get}
 use Rattle.std.specs.Option.{option_map, is_some}
 use Rattle.std.specs.Cmp.{IsTotalOrder}
 use Rattle.std.specs.declared.cmp.Ordering.{Ordering}
+use Rattle.std.specs.declared.cmp.Ordering.TheVariants.{Less}
 use Rattle.std.proofs.lemmas.Bool.{false≢true}
-use Rattle.map_model.specs.Entries.{IsIncreasing, lookup, below, above, set, drop_key}
+use Rattle.map_model.specs.Entries.{AllKeys, IsIncreasing, lookup, below, above, set, drop_key}
 use Rattle.map_model.specs.Balance.{weight}
 use Rattle.map_model.specs.Order.{IsExact}
+use Rattle.map_model.proofs.Keys.{AllKeys-append, AllKeys-front, AllKeys-back}
 use Rattle.map_model.proofs.Lengths.{length-filter_le, length-set, length-drop_key}
 use Rattle.map_model.proofs.Ranges.{slice_get-around_at}
 use Rattle.map_model.proofs.Splits.{split_found, split_absent, drop_key-split, IsIncreasing-drop_key}
@@ -46,6 +48,29 @@ pub drop_front : {E : Type 0} (l r : List E) → drop (length l) (l ++ r) ≡ r
 drop_front [] r = refl
 drop_front (x ∷ l) r = drop_front l r
 
+pub drop_past : {E : Type 0} (l : List E) (e : E) (r : List E) → drop (length l + 1) (l ++ e ∷ r) ≡ r
+drop_past [] e r = refl
+drop_past (x ∷ l) e r =
+    let more : suc (length l) + 1 ≡ suc (length l + 1) = omega arith in
+    rw more (drop_past l e r)
+
+-- a list without the entry at a place
+AllKeys-without : {K V : Type 0} (P : K → Type 0) (i : ℕ) (m : List (K × V)) → AllKeys P m → AllKeys P (take i m ++ drop (i + 1) m)
+AllKeys-without P i m a =
+    AllKeys-append P (take i m) (drop (i + 1) m)
+    (AllKeys-front P (take i m) (drop i m) (subst (AllKeys P) (sym (take-append-drop i m)) a))
+    (AllKeys-back P (take (i + 1) m) (drop (i + 1) m) (subst (AllKeys P) (sym (take-append-drop (i + 1) m)) a))
+
+pub IsIncreasing-without : {K V : Type 0} (order : K → K → Ordering) (i : ℕ) (m : List (K × V)) → IsIncreasing order m → IsIncreasing order (take i m ++ drop (i + 1) m)
+IsIncreasing-without order zero [] s = tt
+IsIncreasing-without order (suc i) [] s =
+    let more : suc i + 1 ≡ suc (i + 1) = omega arith in
+    rw more tt
+IsIncreasing-without order zero (e ∷ m) s = s.1
+IsIncreasing-without order (suc i) (e ∷ m) s =
+    let more : suc i + 1 ≡ suc (i + 1) = omega arith in
+    rw more (AllKeys-without (λ k. order e.0 k ≡ Less) i m s.0, IsIncreasing-without order i m s.1)
+
 -- nothing stands before place 0
 pub first_cut : {E : Type 0} (es f : List E) (e : E) (r : List E) → es ≡ f ++ e ∷ r → length f ≡ 0 → es ≡ e ∷ r
 first_cut es [] e r whole none = whole
@@ -66,6 +91,13 @@ module _ {K V : Type 0} {order : K → K → Ordering} (total : IsTotalOrder ord
       let found = has_value (lookup order m q) present in
       let parts = append_cancel front e back (below order m q) (q, found.0) (above order m q) (sym whole ∙ split_found total exact m q found.0 s found.1) same in
       (parts.0, parts.2, found.1 ∙ ap (λ (x : K × V). Some x.1) (sym parts.1))
+
+  -- what stands before and after q, which the list has
+  pub parts_found : is_some (lookup order m q) ≡ true → (take (length (below order m q)) m ≡ below order m q) × (drop (length (below order m q) + 1) m ≡ above order m q)
+  parts_found present =
+      let found = has_value (lookup order m q) present in
+      let whole = split_found total exact m q found.0 s found.1 in
+      (ap (take (length (below order m q))) whole ∙ take_front (below order m q) ((q, found.0) ∷ above order m q), ap (drop (length (below order m q) + 1)) whole ∙ drop_past (below order m q) (q, found.0) (above order m q))
 
   -- a list cut at the place of q, which it hasn't
   pub cut_missed : lookup order m q ≡ None → (take (length (below order m q)) m ≡ below order m q) × (drop (length (below order m q)) m ≡ above order m q)

@@ -1,22 +1,30 @@
-use Rattle.std.proofs.Common.{arith}
-use Rattle.diff_leaf.proofs.Seeks.{stop_at, stop_hit, go_on, end_at, end_hit}
+use Rattle.std.proofs.Common.{arith, sym}
+use Rattle.diff_leaf.proofs.Seeks.{found_at, found_hit, passed_at, passed_hit, go_on, end_at, end_hit}
 use Rattle.diff_leaf.proofs.gaps.seek_key.Goals as goal
-
-pub returns-then-found-key-clause-at : goal.returns-then-found-key-clause-at
-returns-then-found-key-clause-at g c =
-    stop_at c.args.key _ c.requires.increasing _ c.loop-place.invariant.lower _ _ c.entry_at-found.ensures.entry c.if-found-key.true
-
-pub returns-then-found-key-clause-hit : goal.returns-then-found-key-clause-hit
-returns-then-found-key-clause-hit g c =
-    stop_hit c.args.key _ c.requires.increasing _ c.loop-place.invariant.lower _ _ c.entry_at-found.ensures.entry c.if-found-key.true
 
 pub loop-place-preserved : goal.loop-place-preserved
 loop-place-preserved g c =
     record {
       place = c.entry_at-found.ensures.next;
-      lower = rw c.entry_at-found.ensures.index (go_on c.args.key _ c.requires.increasing _ c.loop-place.invariant.lower _ _ c.entry_at-found.ensures.entry c.if-found-key.false);
-      counted = omega (arith, c.tick.ensures, c.loop-place.invariant.counted, c.entry_at-found.ensures.index);
+      lower = rw c.entry_at-found.ensures.index (go_on c.args.key _ c.requires.increasing _ c.loop-place.invariant.lower _ _ c.entry_at-found.ensures.entry (sym c.in-Less.ensures.value));
+      counted = omega (arith, c.in-Less.ensures.one_step, c.loop-place.invariant.counted, c.entry_at-found.ensures.index);
     }
+
+pub returns-in-Equal-clause-at : goal.returns-in-Equal-clause-at
+returns-in-Equal-clause-at g c =
+    found_at c.args.key _ c.requires.increasing _ c.loop-place.invariant.lower _ _ c.entry_at-found.ensures.entry (sym c.in-Equal.ensures.value)
+
+pub returns-in-Equal-clause-hit : goal.returns-in-Equal-clause-hit
+returns-in-Equal-clause-hit g c =
+    found_hit c.args.key _ c.requires.increasing _ c.loop-place.invariant.lower _ _ c.entry_at-found.ensures.entry (sym c.in-Equal.ensures.value)
+
+pub returns-in-Greater-clause-at : goal.returns-in-Greater-clause-at
+returns-in-Greater-clause-at g c =
+    passed_at c.args.key _ c.requires.increasing _ c.loop-place.invariant.lower _ _ c.entry_at-found.ensures.entry (sym c.in-Greater.ensures.value)
+
+pub returns-in-Greater-clause-hit : goal.returns-in-Greater-clause-hit
+returns-in-Greater-clause-hit g c =
+    passed_hit c.args.key _ c.requires.increasing _ c.loop-place.invariant.lower _ _ c.entry_at-found.ensures.entry (sym c.in-Greater.ensures.value)
 
 pub returns-clause-at : goal.returns-clause-at
 returns-clause-at g c =

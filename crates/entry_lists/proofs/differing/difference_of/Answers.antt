@@ -1,7 +1,8 @@
 use Rattle.std.proofs.Common.{◌≡◌, [], ◌∷◌, ◌++◌, rules, ◌∙◌}
 use Rattle.std.specs.declared.cmp.Ordering.TheVariants.{Less, Equal, Greater}
 use Rattle.map_model.specs.SetOperations.{difference}
-use Rattle.entry_lists.proofs.MergeSteps.{none_left, difference_less, difference_equal, difference_greater, difference_left, difference_done}
+use Rattle.std.proofs.lemmas.List.{nil_from_length}
+use Rattle.entry_lists.proofs.MergeSteps.{difference_less, difference_equal, difference_greater, difference_left, difference_done}
 use Rattle.entry_lists.proofs.differing.difference_of.Goals as goal
 use Rattle.entry_lists.proofs.differing.difference_of.Goals.{in-Some+in_default-split_first, in_default}
 
@@ -42,9 +43,9 @@ returns g c =
     let rest : c.push_all_shared.new.into.items ≡ out ++ left = search rules in
     rest ∙ elim c.match-split_first.branch [
       | in-Some+in_default-split_first w ↦
-          let ended : right ≡ [] = none_left right w.in_default-split_first.ensures.cases in
+          let ended : right ≡ [] = nil_from_length right w.in_default-split_first.ensures.cases in
           difference_left g.met.K.Ord.total g.met.K.Key.exact out whole left right ended c.loop-near.invariant.0
       | in_default w ↦
-          let ended : left ≡ [] = none_left left w.in_default.ensures.cases in
+          let ended : left ≡ [] = nil_from_length left w.in_default.ensures.cases in
           difference_done g.met.K.Ord.total g.met.K.Key.exact out whole left right ended c.loop-near.invariant.0
     ]

@@ -1,7 +1,8 @@
 use Rattle.std.proofs.Common.{◌≡◌, [], ◌∷◌, ◌++◌, rules}
 use Rattle.std.specs.declared.cmp.Ordering.TheVariants.{Less, Equal, Greater}
 use Rattle.map_model.specs.SetOperations.{intersect}
-use Rattle.entry_lists.proofs.MergeSteps.{none_left, intersect_less, intersect_equal, intersect_greater, intersect_end, intersect_done}
+use Rattle.std.proofs.lemmas.List.{nil_from_length}
+use Rattle.entry_lists.proofs.MergeSteps.{intersect_less, intersect_equal, intersect_greater, intersect_end, intersect_done}
 use Rattle.entry_lists.proofs.meeting.intersect_of.Goals as goal
 use Rattle.entry_lists.proofs.meeting.intersect_of.Goals.{in-Some+in_default-split_first, in_default}
 
@@ -42,9 +43,9 @@ returns g c =
     let whole = intersect g.K.Ord.cmp how c.args.a.now c.args.b.now in
     elim c.match-split_first.branch [
       | in-Some+in_default-split_first w ↦
-          let ended : right ≡ [] = none_left right w.in_default-split_first.ensures.cases in
+          let ended : right ≡ [] = nil_from_length right w.in_default-split_first.ensures.cases in
           intersect_end g.met.K.Ord.total g.met.K.Key.exact out whole how left right ended c.loop-near.invariant.0
       | in_default w ↦
-          let ended : left ≡ [] = none_left left w.in_default.ensures.cases in
+          let ended : left ≡ [] = nil_from_length left w.in_default.ensures.cases in
           intersect_done g.met.K.Ord.total g.met.K.Key.exact out whole how left right ended c.loop-near.invariant.0
     ]

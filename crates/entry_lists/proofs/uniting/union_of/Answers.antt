@@ -1,7 +1,8 @@
 use Rattle.std.proofs.Common.{◌≡◌, [], ◌∷◌, ◌++◌, rules, ap, ◌∙◌}
 use Rattle.std.specs.declared.cmp.Ordering.TheVariants.{Less, Equal, Greater}
 use Rattle.map_model.specs.SetOperations.{union}
-use Rattle.entry_lists.proofs.MergeSteps.{none_left, union_less, union_equal, union_greater, union_left, union_right}
+use Rattle.std.proofs.lemmas.List.{nil_from_length}
+use Rattle.entry_lists.proofs.MergeSteps.{union_less, union_equal, union_greater, union_left, union_right}
 use Rattle.entry_lists.proofs.uniting.union_of.Goals as goal
 use Rattle.entry_lists.proofs.uniting.union_of.Goals.{in-Some+in_default-split_first, in_default}
 
@@ -46,9 +47,9 @@ returns g c =
     let second : c.push_all_shared-2.new.into.items ≡ c.push_all_shared.new.into.items ++ right = search rules in
     second ∙ ap (λ x. x ++ right) first ∙ elim c.match-split_first.branch [
       | in-Some+in_default-split_first w ↦
-          let ended : right ≡ [] = none_left right w.in_default-split_first.ensures.cases in
+          let ended : right ≡ [] = nil_from_length right w.in_default-split_first.ensures.cases in
           union_left g.met.K.Ord.total g.met.K.Key.exact out whole how left right ended c.loop-near.invariant.0
       | in_default w ↦
-          let ended : left ≡ [] = none_left left w.in_default.ensures.cases in
+          let ended : left ≡ [] = nil_from_length left w.in_default.ensures.cases in
           union_right g.met.K.Ord.total g.met.K.Key.exact out whole how left right ended c.loop-near.invariant.2 c.loop-near.invariant.0
     ]
