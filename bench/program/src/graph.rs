@@ -1,0 +1,85 @@
+//! The tool graph over a `BTreeMap` of sorted adjacency lists, which a kept snapshot copies.
+use crate::records::{number, pairs, records};
+use crate::replies::line;
+use std::collections::{BTreeMap, VecDeque};
+
+#[derive(Clone, Default)]
+struct Graph {
+    lists: BTreeMap<u64, Vec<u64>>,
+    edges: u64,
+}
+
+impl Graph {
+    fn add(&mut self, from: u64, to: u64) {
+        let list = self.lists.entry(from).or_default();
+        if let Err(place) = list.binary_search(&to) {
+            list.insert(place, to);
+            self.edges += 1;
+        }
+    }
+
+    fn cut(&mut self, from: u64, to: u64) {
+        let Some(list) = self.lists.get_mut(&from) else {
+            return;
+        };
+        if let Ok(place) = list.binary_search(&to) {
+            list.remove(place);
+            self.edges -= 1;
+        }
+        if list.is_empty() {
+            self.lists.remove(&from);
+        }
+    }
+
+    fn reached(&self, from: u64) -> BTreeMap<u64, u64> {
+        let mut found = BTreeMap::from([(from, 0)]);
+        let mut next = VecDeque::from([(from, 0)]);
+        while let Some((vertex, distance)) = next.pop_front() {
+            for to in self.lists.get(&vertex).into_iter().flatten() {
+                if !found.contains_key(to) {
+                    found.insert(*to, distance + 1);
+                    next.push_back((*to, distance + 1));
+                }
+            }
+        }
+        found
+    }
+}
+
+fn search(out: &mut Vec<u8>, graph: &Graph, from: u64) {
+    let found = graph.reached(from);
+    let numbers = found.iter().flat_map(|hit| [*hit.0, *hit.1]);
+    line(out, "bfs", std::iter::once(found.len() as u64).chain(numbers));
+}
+
+/// The replies to a script.
+pub fn run(input: &[u8]) -> Vec<u8> {
+    let mut graph = Graph::default();
+    let mut kept: Vec<Graph> = Vec::new();
+    let mut out = Vec::new();
+    for record in records(input) {
+        match record[0] {
+            b"add" => {
+                pairs(&record[1..]).into_iter().for_each(|edge| graph.add(edge.0, edge.1));
+                line(&mut out, "ok", [graph.edges]);
+            }
+            b"cut" => {
+                pairs(&record[1..]).into_iter().for_each(|edge| graph.cut(edge.0, edge.1));
+                line(&mut out, "ok", [graph.edges]);
+            }
+            b"keep" => {
+                line(&mut out, "kept", [kept.len() as u64]);
+                kept.push(graph.clone());
+            }
+            b"size" => line(&mut out, "graph", [graph.lists.len() as u64, graph.edges]),
+            b"degree" => line(&mut out, "degree", [graph.lists.get(&number(record[1])).map_or(0, Vec::len) as u64]),
+            b"now" => search(&mut out, &graph, number(record[1])),
+            b"bfs" => match kept.get(number(record[1]) as usize) {
+                Some(snapshot) => search(&mut out, snapshot, number(record[2])),
+                None => line(&mut out, "none", []),
+            },
+            _ => {}
+        }
+    }
+    out
+}
