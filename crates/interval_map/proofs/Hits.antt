@@ -3,7 +3,7 @@ use Rattle.std.proofs.Common.{◌≡◌, ℕ, ◌-◌, ◌^◌, ◌<◌, ◌&&�
 use Rattle.std.proofs.lemmas.Bool.Decides.{nat_tests}
 use Rattle.std.specs.List.{AllByRecursion, filter}
 use Rattle.std.specs.Map.{keys_of}
-use Rattle.std.specs.Ordering.{is_ge, is_le, nat_cmp}
+use Rattle.std.specs.Ordering.{is_ge, is_le}
 use Rattle.aug_monoid.specs.Exact.{pair64_cmp}
 use Rattle.aug_monoid.specs.Greatest.{greater_of}
 use Rattle.aug_monoid.specs.declared.pair64.Pair64.{Pair64}

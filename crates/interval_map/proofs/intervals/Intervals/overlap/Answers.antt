@@ -1,4 +1,4 @@
-use Rattle.std.proofs.Common.{◌≡◌, Some, ap, ap₂, ◌∙◌}
+use Rattle.std.proofs.Common.{Some, ap, ap₂, ◌∙◌}
 use Rattle.std.proofs.lemmas.Result.{IfOk-weaker}
 use Rattle.std.specs.Map.{keys_of}
 use Rattle.aug_monoid.specs.Exact.{pair64_cmp}
