@@ -3,7 +3,7 @@ use Rattle.std.proofs.Common.{◌≡◌, ℕ, ◌-◌, ◌^◌, ◌<◌, ◌&&�
 use Rattle.std.proofs.lemmas.Bool.Decides.{nat_tests}
 use Rattle.std.specs.List.{AllByRecursion, filter}
 use Rattle.std.specs.Map.{keys_of}
-use Rattle.std.specs.Ordering.{is_ge, is_le, nat_cmp}
+use Rattle.std.specs.Ordering.{is_ge, is_le}
 use Rattle.aug_monoid.specs.Exact.{pair64_cmp}
 use Rattle.aug_monoid.specs.Greatest.{greater_of}
 use Rattle.aug_monoid.specs.declared.pair64.Pair64.{Pair64}
@@ -37,14 +37,14 @@ module _ {V : Type 0} where
   keys-overlap (e ∷ m) lo hi a =
       let rest = keys-overlap m lo hi a.1 in
       rw (begins_from e.0, begins_by hi e.0 a.0.1) (elim (nat_le e.0.first hi) as (λ b.
-          keys_of (aug_filter (λ key _. Some key.second) (reaches lo) (cond b (e ∷ slice pair64_cmp m (interval 0 0) (interval hi (2 ^ 64 - 1))) (slice pair64_cmp m (interval 0 0) (interval hi (2 ^ 64 - 1)))))
-          ≡ cond (b && nat_le lo e.0.second) (e.0 ∷ overlap (keys_of m) lo hi) (overlap (keys_of m) lo hi)) [
+      keys_of (aug_filter (λ key _. Some key.second) (reaches lo) (cond b (e ∷ slice pair64_cmp m (interval 0 0) (interval hi (2 ^ 64 - 1))) (slice pair64_cmp m (interval 0 0) (interval hi (2 ^ 64 - 1)))))
+      ≡ cond (b && nat_le lo e.0.second) (e.0 ∷ overlap (keys_of m) lo hi) (overlap (keys_of m) lo hi)) [
         | true ↦ elim (nat_le lo e.0.second) as (λ b.
             keys_of (cond b (e ∷ aug_filter (λ key _. Some key.second) (reaches lo) (slice pair64_cmp m (interval 0 0) (interval hi (2 ^ 64 - 1)))) (aug_filter (λ key _. Some key.second) (reaches lo) (slice pair64_cmp m (interval 0 0) (interval hi (2 ^ 64 - 1)))))
             ≡ cond b (e.0 ∷ overlap (keys_of m) lo hi) (overlap (keys_of m) lo hi)) [
-          | true ↦ ap (λ is. e.0 ∷ is) rest
-          | false ↦ rest
-        ]
+              | true ↦ ap (λ is. e.0 ∷ is) rest
+              | false ↦ rest
+            ]
         | false ↦ rest
       ])
 
@@ -58,8 +58,8 @@ module _ {V : Type 0} where
       let rest = covers_is m p a.1 in
       let fold = fold_of (λ (key : Pair64) (_ : V). Some key.second) None greater_of (left_of pair64_cmp m (interval p (2 ^ 64 - 1))) in
       rw (begins_by p e.0 a.0.1) (elim (nat_le e.0.first p) as (λ b.
-          reaches p (fold_of (λ key _. Some key.second) None greater_of (cond b (e ∷ left_of pair64_cmp m (interval p (2 ^ 64 - 1))) (left_of pair64_cmp m (interval p (2 ^ 64 - 1)))))
-          ≡ some_of (cond (b && nat_le p e.0.second) (e.0 ∷ stab (keys_of m) p) (stab (keys_of m) p))) [
+      reaches p (fold_of (λ key _. Some key.second) None greater_of (cond b (e ∷ left_of pair64_cmp m (interval p (2 ^ 64 - 1))) (left_of pair64_cmp m (interval p (2 ^ 64 - 1)))))
+      ≡ some_of (cond (b && nat_le p e.0.second) (e.0 ∷ stab (keys_of m) p) (stab (keys_of m) p))) [
         | true ↦ reaches_either p (Some e.0.second) fold tt tt ∙ elim (nat_le p e.0.second) as (λ b. (b || reaches p fold) ≡ some_of (cond b (e.0 ∷ stab (keys_of m) p) (stab (keys_of m) p))) [
           | true ↦ refl
           | false ↦ rest

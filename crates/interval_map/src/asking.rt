@@ -62,7 +62,9 @@ impl Intervals {
     pub fn overlap(&self, alloc: Global, lo: u64, hi: u64) -> Result<Vec<Pair64>, NoMemory>
         ensures { IfOk result (λ hits. hits.items ≡ overlap self.now lo hi) }
     {
-        let begun = self.map.slice(alloc, &interval(0, 0), &interval(hi, u64::MAX))?;
+        let begun = self
+            .map
+            .slice(alloc, &interval(0, 0), &interval(hi, u64::MAX))?;
         let hits = begun.aug_filter(alloc, &EndsFrom { least: lo })?;
         keys(alloc, &hits)
     }

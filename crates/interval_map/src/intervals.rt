@@ -54,7 +54,6 @@ impl Intervals {
     }
 
     /// How many intervals there are.
-    #[tactic(auto, using(crate::proofs::Keys::keys_are, crate::proofs::Keys::keys_count))]
     pub fn size(&self) -> u64
         ensures value { result ≡ length self.now }
         ensures intervals { IsIntervals self.now }

@@ -11,7 +11,12 @@ use script::{IntervalCommand, line};
 use std::alloc::Global;
 
 // Appends whether an interval has `p`.
-fn any_line(alloc: Global, text: &mut Vec<u8>, intervals: &Intervals, p: u64) -> Result<(), NoMemory>
+fn any_line(
+    alloc: Global,
+    text: &mut Vec<u8>,
+    intervals: &Intervals,
+    p: u64,
+) -> Result<(), NoMemory>
     ensures { OnOk result (text.new.items ≡ text.old.items ++ any_line (stab intervals.now p)) }
 {
     if intervals.any(alloc, p) {
