@@ -80,7 +80,7 @@ lookup-rows (e ∷ m) q s =
 -- ---- the points whose rows pass a test, in order
 
 module _ (p : Pair64 → Bool) where
-  points-rows : (m : List (Pair64 × ℕ)) → IsIncreasing pair64_cmp m → points_of (filter (λ e. p e.0) (rows_of m)) ≡ filter (λ e. p (swapped e.0)) m
+  pub points-rows : (m : List (Pair64 × ℕ)) → IsIncreasing pair64_cmp m → points_of (filter (λ e. p e.0) (rows_of m)) ≡ filter (λ e. p (swapped e.0)) m
   points-rows m s =
       let kept = IsIncreasing-filter pair64_cmp (λ (e : Pair64 × ℕ). p e.0) (rows_of m) (rows_increase m) in
       build-is pair64_total pair64_exact (map swapped_entry (filter (λ e. p e.0) (rows_of m))) (filter (λ e. p (swapped e.0)) m) (IsIncreasing-filter pair64_cmp (λ (e : Pair64 × ℕ). p (swapped e.0)) m s) (λ q.
