@@ -8,11 +8,10 @@ mod listings;
 mod places;
 mod points;
 mod rows;
-mod totals;
-mod tree;
-
 #[cfg(test)]
 mod tests;
+mod totals;
+mod tree;
 
 pub use points::{Point, Rect, Total};
 pub use rows::{Places, Rows};

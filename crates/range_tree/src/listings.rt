@@ -1,6 +1,6 @@
 //! Lists of the points of rows, by (x, y).
 ghost use Rattle.std.specs.Prelude.{◌≡◌, ◌++◌, IfOk};
-ghost use Rattle.range_tree.specs.Listings.{append_monoid, points_of, rows_points, rows_points-projection};
+ghost use Rattle.range_tree.specs.Listings.{append_monoid, points_of, rows_points, rows_points_projection};
 
 use crate::places::{greatest_at, least_at, swapped};
 use crate::rows::{Places, Rows};
@@ -53,7 +53,7 @@ impl Project<Places> for RowPoints {
 
     ghost monoid = { λ _. append_monoid };
 
-    ghost projection = { λ s. rows_points-projection s.y1 s.y2 };
+    ghost projection = { λ s. rows_points_projection s.y1 s.y2 };
 
     fn image(&self, alloc: Global, aug: &Rows) -> Result<Listed, NoMemory> {
         let part = aug

@@ -73,7 +73,7 @@ impl Points {
 
     /// With these points set in order, so that a later point replaces an earlier one at its place. It is one bulk operation, which
     /// forks where the cut allows it.
-    #[tactic(auto, using(crate::proofs::Kept::AllKeys-after_puts))]
+    #[tactic(auto, using(crate::proofs::Kept::all_after_puts))]
     pub fn add<R: Threads + Sync, G: Gate>(
         &self,
         rt: &R,
@@ -91,7 +91,7 @@ impl Points {
 
     /// Without the points at these places (x, y); places that have none change nothing. It is one bulk operation, which forks where
     /// the cut allows it.
-    #[tactic(auto, using(crate::proofs::Kept::AllKeys-after_dels))]
+    #[tactic(auto, using(crate::proofs::Kept::all_after_dels))]
     pub fn del<R: Threads + Sync, G: Gate>(
         &self,
         rt: &R,
