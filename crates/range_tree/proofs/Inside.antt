@@ -40,12 +40,12 @@ columns_increase rect m s = IsIncreasing-filter pair64_cmp (λ (e : Pair64 × �
 total_capped : (m : List (Pair64 × ℕ)) → length m < 2 ^ 60 → capped (weight_sum m) (length m) ≡ total_of m
 total_capped m h = let with_count : ℕ → Total = λ n. record { sum = min (weight_sum m) (2 ^ 64 - 1); count = n } in ap with_count {x = min (length m) (2 ^ 64 - 1)} {y = length m} (omega arith)
 
-pub total-inside : (rect : Rect) (m : List (Pair64 × ℕ)) → IsIncreasing pair64_cmp m → AllKeys IsPlace m → length m < 2 ^ 60 → rows_total rect.y1 rect.y2 (range_fold pair64_cmp row_of [] rows_of_both m (least_at rect.x1) (greatest_at rect.x2)) ≡ total_of (inside rect m)
-total-inside rect m s a h =
+pub total_is_inside : (rect : Rect) (m : List (Pair64 × ℕ)) → IsIncreasing pair64_cmp m → AllKeys IsPlace m → length m < 2 ^ 60 → rows_total rect.y1 rect.y2 (range_fold pair64_cmp row_of [] rows_of_both m (least_at rect.x1) (greatest_at rect.x2)) ≡ total_of (inside rect m)
+total_is_inside rect m s a h =
     let few : length (inside rect m) ≤ length m = length-filter_le (λ (e : Pair64 × ℕ). contains rect e.0) m in
     total-rows (between rect.y1 rect.y2) (lines rect.x1 rect.x2 m) (columns_increase rect m s)
     ∙ ap (λ z. capped (weight_sum z) (length z)) (filter-lines rect m a)
     ∙ total_capped (inside rect m) (omega arith)
 
-pub points-inside : (rect : Rect) (m : List (Pair64 × ℕ)) → IsIncreasing pair64_cmp m → AllKeys IsPlace m → rows_points rect.y1 rect.y2 (range_fold pair64_cmp row_of [] rows_of_both m (least_at rect.x1) (greatest_at rect.x2)) ≡ inside rect m
-points-inside rect m s a = points-rows (between rect.y1 rect.y2) (lines rect.x1 rect.x2 m) (columns_increase rect m s) ∙ filter-lines rect m a
+pub points_are_inside : (rect : Rect) (m : List (Pair64 × ℕ)) → IsIncreasing pair64_cmp m → AllKeys IsPlace m → rows_points rect.y1 rect.y2 (range_fold pair64_cmp row_of [] rows_of_both m (least_at rect.x1) (greatest_at rect.x2)) ≡ inside rect m
+points_are_inside rect m s a = points-rows (between rect.y1 rect.y2) (lines rect.x1 rect.x2 m) (columns_increase rect m s) ∙ filter-lines rect m a

@@ -1,6 +1,6 @@
 //! Lists of the points of rows, by (x, y).
-ghost use Rattle.std.specs.Prelude.{◌≡◌, ◌++◌, IfOk};
-ghost use Rattle.range_tree.specs.Listings.{append_monoid, points_of, rows_points, rows_points_projection};
+ghost use Rattle.std.specs.Prelude.{◌≡◌, ◌++◌, map, IfOk};
+ghost use Rattle.range_tree.specs.Listings.{append_monoid, points_of, rows_points, rows_points_projection, swapped_entry};
 
 use crate::places::{greatest_at, least_at, swapped};
 use crate::rows::{Places, Rows};
@@ -77,15 +77,23 @@ fn points_of(alloc: Global, rows: &PlainMap<SumMax<Pair64>>) -> Result<Vec<(Pair
 {
     let _number = rows.size();
     let entries = rows.to_vec(alloc)?;
-    let mut points: Vec<(Pair64, u64)> = entries
-        .iter()
-        .map(|entry| (swapped(entry.0), entry.1))
-        .collect(alloc)?;
+    let mut points = exchanged(alloc, &entries)?;
     points.as_mut_slice().sort_by_key(
         alloc,
         |entry: &(Pair64, u64)| -> Pair64
             ensures { result ≡ entry.now.0 }
         { entry.0 },
     )?;
+    Ok(points)
+}
+
+/// Entries of rows as entries of points.
+fn exchanged(alloc: Global, entries: &[(Pair64, u64)]) -> Result<Vec<(Pair64, u64)>, NoMemory>
+    ensures { IfOk result (λ points. points.items ≡ map swapped_entry entries.now) }
+{
+    let points = entries
+        .iter()
+        .map(|entry| (swapped(entry.0), entry.1))
+        .collect(alloc)?;
     Ok(points)
 }

@@ -1,7 +1,7 @@
 //! Totals of rows.
-ghost use Rattle.std.specs.Prelude.{◌≡◌, ◌<◌, ◌^◌, length, IfOk};
+ghost use Rattle.std.specs.Prelude.{◌≡◌, ◌<◌, length, IfOk};
 ghost use Rattle.aug_monoid.specs.Exact.{pair64_cmp};
-ghost use Rattle.map_model.specs.Parts.{slice};
+ghost use Rattle.map_model.specs.Parts.{left_of, slice};
 ghost use Rattle.range_tree.specs.Points.{weight_sum};
 ghost use Rattle.range_tree.specs.Totals.{TotalFits, capped, rows_projection, rows_total, rows_total_fits, total_both, total_monoid};
 
@@ -11,7 +11,6 @@ use crate::rows::{Places, Rows};
 use aug_map::PlainMap;
 use aug_monoid::{NoMemory, Pair64, Project, Steps, SumMax};
 use std::alloc::Global;
-use std::cmp::Ordering;
 use std::marker::Brand;
 use std::sync::ledger::{Blank, Ledger};
 
@@ -55,7 +54,26 @@ impl Project<Places> for RowTotal {
     }
 }
 
+/// How many entries have keys up to `key`.
+#[tactic(auto, using(crate::proofs::Counts::counted_found, crate::proofs::Counts::counted_absent, crate::proofs::Counts::rank_fits))]
+fn count_upto<C: Ledger>(
+    alloc: Global,
+    map: &PlainMap<SumMax<Pair64>>,
+    key: &Pair64,
+    steps: &mut Steps<C>,
+) -> Result<u64, NoMemory>
+    ensures { IfOk result (λ count. count ≡ length (left_of pair64_cmp map.now.entries key.now)) }
+{
+    let _number = map.size();
+    let less = map.rank(key, steps);
+    match map.get(alloc, key, steps)? {
+        Some(_) => Ok(less + 1),
+        None => Ok(less),
+    }
+}
+
 /// How many entries have keys from `lo` to `hi`.
+#[tactic(auto, using(crate::proofs::Counts::counted_between, crate::proofs::Counts::counted_none))]
 fn count_between<C: Ledger>(
     alloc: Global,
     map: &PlainMap<SumMax<Pair64>>,
@@ -63,15 +81,13 @@ fn count_between<C: Ledger>(
     hi: &Pair64,
     steps: &mut Steps<C>,
 ) -> Result<u64, NoMemory>
-    ensures value { IfOk result (λ count. count ≡ length (slice pair64_cmp map.now.entries lo.now hi.now)) }
-    ensures fits { IfOk result (λ count. count < 2 ^ 60) }
+    ensures { IfOk result (λ count. count ≡ length (slice pair64_cmp map.now.entries lo.now hi.now)) }
 {
-    let _number = map.size();
-    if lo.cmp(hi) == Ordering::Greater {
+    if lo.cmp(hi).is_gt() {
         return Ok(0);
     }
-    let last = u64::from(map.get(alloc, hi, steps)?.is_some());
-    Ok(map.rank(hi, steps) + last - map.rank(lo, steps))
+    let upto = count_upto(alloc, map, hi, steps)?;
+    Ok(upto - map.rank(lo, steps))
 }
 
 /// The total of the entries with keys from `lo` to `hi`.
@@ -84,6 +100,7 @@ fn total_between<C: Ledger>(
 ) -> Result<Total, NoMemory>
     ensures { IfOk result (λ total. total ≡ capped (weight_sum (slice pair64_cmp map.now.entries lo.now hi.now)) (length (slice pair64_cmp map.now.entries lo.now hi.now))) }
 {
+    let _number = map.size();
     let sum = map.aug_range(alloc, lo, hi, steps)?.sum;
     let count = count_between(alloc, map, lo, hi, steps)?;
     Ok(Total { sum, count })
