@@ -145,13 +145,20 @@ fn entries_of(alloc: Global, points: &[Point]) -> Result<Vec<(Pair64, u64)>, NoM
 {
     let mut entries = Vec::with_capacity(alloc, points.len())?;
     for point in points {
-        let place = Pair64 {
-            first: point.x,
-            second: point.y,
-        };
-        entries.push((place, point.weight))?;
+        entries.push(entry_of(*point))?;
     }
     Ok(entries)
+}
+
+fn entry_of(point: Point) -> (Pair64, u64)
+    ensures same { result ≡ entry_of point }
+    ensures fit { IsPlace result.0 }
+{
+    let place = Pair64 {
+        first: point.x,
+        second: point.y,
+    };
+    (place, point.weight)
 }
 
 /// Entries of the map as points.
