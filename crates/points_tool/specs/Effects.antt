@@ -4,9 +4,10 @@ use Rattle.std.specs.List.{flat_map}
 use Rattle.aug_monoid.specs.declared.pair64.Pair64.{Pair64}
 use Rattle.aug_monoid.specs.Exact.{pair64_cmp}
 use Rattle.map_model.specs.Operations.{after, dels, puts}
+use Rattle.range_tree.specs.declared.points.Point.{Point}
 use Rattle.range_tree.specs.declared.points.Rect.{Rect}
 use Rattle.range_tree.specs.declared.points.Total.{Total}
-use Rattle.range_tree.specs.Points.{inside, total_of}
+use Rattle.range_tree.specs.Points.{inside, point_of, total_of}
 use Rattle.script.specs.Lines.{line_of}
 use Rattle.script.specs.declared.points.Weighed.{Weighed}
 use Rattle.script.specs.declared.points.PointsCommand.{PointsCommand}
@@ -23,11 +24,11 @@ abbrev pub total_line : Total → List ℕ
 total_line total = line_of (codes "sum") (total.sum ∷ total.count ∷ [])
 
 -- x, y and weight of each point, one after another
-abbrev pub numbers_of : List (Pair64 × ℕ) → List ℕ
-numbers_of m = flat_map (λ e. e.0.first ∷ e.0.second ∷ e.1 ∷ []) m
+abbrev pub numbers_of : List Point → List ℕ
+numbers_of points = flat_map (λ p. p.x ∷ p.y ∷ p.weight ∷ []) points
 
-abbrev pub points_line : List (Pair64 × ℕ) → List ℕ
-points_line m = line_of (codes "points") (length m ∷ numbers_of m)
+abbrev pub points_line : List Point → List ℕ
+points_line points = line_of (codes "points") (length points ∷ numbers_of points)
 
 abbrev pub points_after : List (Pair64 × ℕ) → PointsCommand → List (Pair64 × ℕ)
 points_after m (command.Add place points) = after pair64_cmp m (puts (weighed_entries points))
@@ -41,4 +42,4 @@ points_reply m (command.Add place points) = line_of (codes "ok") []
 points_reply m (command.Del place places) = line_of (codes "ok") []
 points_reply m (command.Size place) = line_of (codes "size") (length m ∷ [])
 points_reply m (command.Sum place x1 x2 y1 y2) = total_line (total_of (inside (rect_of x1 x2 y1 y2) m))
-points_reply m (command.List place x1 x2 y1 y2) = points_line (inside (rect_of x1 x2 y1 y2) m)
+points_reply m (command.List place x1 x2 y1 y2) = points_line (map point_of (inside (rect_of x1 x2 y1 y2) m))

@@ -1,24 +1,76 @@
 //! Runs the commands of an input.
-ghost use Rattle.std.specs.Prelude.{◌≡◌, [], IfOk};
+ghost use Rattle.std.specs.Prelude.{◌≡◌, ◌++◌, [], IfOk, OnOk};
 ghost use Rattle.points_tool.specs.Effects.{points_after, points_reply};
 ghost use Rattle.script.specs.Replies.{replies};
 
+use crate::asking::{list, rect, total};
+use crate::board::Board;
 use aug_monoid::NoMemory;
 use fork_join::{Cut, Gate};
-use script::PointsCommand;
+use range_tree::Points;
+use script::{PointsCommand, line};
 use std::alloc::Global;
 use std::marker::Sync;
 use std::thread::Threads;
 
 /// The replies to the commands, run in order from no points on. They depend neither on the runtime nor on the gate nor on the cut.
+/// Commands in a row that add points are one bulk operation, which forks where the cut allows it.
 pub fn run_points<R: Threads + Sync, G: Gate>(
-    _rt: &R,
-    _alloc: Global,
-    _gate: &G,
-    _cut: Cut,
-    _commands: &[PointsCommand],
+    rt: &R,
+    alloc: Global,
+    gate: &G,
+    cut: Cut,
+    commands: &[PointsCommand],
 ) -> Result<Vec<u8>, NoMemory>
-    ensures { IfOk result (λ text. text.items ≡ replies points_reply points_after [] _commands.now) }
+    ensures { IfOk result (λ text. text.items ≡ replies points_reply points_after [] commands.now) }
 {
-    Err(NoMemory)
+    let mut board = Board::of(alloc, Points::new());
+    let mut text = Vec::new(alloc);
+    for command in commands {
+        board = run_one(rt, alloc, gate, cut, board, command, &mut text)?;
+    }
+    let _points = board.settled(rt, alloc, gate, cut)?;
+    Ok(text)
+}
+
+// Runs a command, and appends its reply.
+fn run_one<R: Threads + Sync, G: Gate>(
+    rt: &R,
+    alloc: Global,
+    gate: &G,
+    cut: Cut,
+    board: Board,
+    command: &PointsCommand,
+    text: &mut Vec<u8>,
+) -> Result<Board, NoMemory>
+    ensures after { IfOk result (λ next. next ≡ points_after board command.now) }
+    ensures reply { OnOk result (text.new.items ≡ text.old.items ++ points_reply board command.now) }
+{
+    match command {
+        PointsCommand::Add { points, .. } => {
+            line(text, "ok", &[])?;
+            board.with(points.items())
+        }
+        PointsCommand::Del { places, .. } => {
+            let points = board.settled(rt, alloc, gate, cut)?;
+            let fewer = points.del(rt, alloc, gate, cut, places.items())?;
+            line(text, "ok", &[])?;
+            Ok(Board::of(alloc, fewer))
+        }
+        PointsCommand::Size { .. } => {
+            let points = board.settled(rt, alloc, gate, cut)?;
+            line(text, "size", &[points.size()])?;
+            Ok(Board::of(alloc, points))
+        }
+        PointsCommand::Sum { x1, x2, y1, y2, .. } => {
+            let points = board.settled(rt, alloc, gate, cut)?;
+            total(alloc, &points, rect(*x1, *x2, *y1, *y2), text)?;
+            Ok(Board::of(alloc, points))
+        }
+        PointsCommand::List { x1, x2, y1, y2, .. } => {
+            let points = board.settled(rt, alloc, gate, cut)?;
+            list(alloc, &points, rect(*x1, *x2, *y1, *y2), text)?;
+            Ok(Board::of(alloc, points))
+        }
+    }
 }

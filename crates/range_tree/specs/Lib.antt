@@ -2,5 +2,4 @@ pub mod Places
 pub mod Rows
 pub mod Points
 pub mod Totals
-
 pub mod Listings

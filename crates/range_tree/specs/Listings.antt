@@ -80,7 +80,7 @@ lookup-rows (e ∷ m) q s =
 -- ---- the points whose rows pass a test, in order
 
 module _ (p : Pair64 → Bool) where
-  points-rows : (m : List (Pair64 × ℕ)) → IsIncreasing pair64_cmp m → points_of (filter (λ e. p e.0) (rows_of m)) ≡ filter (λ e. p (swapped e.0)) m
+  pub points-rows : (m : List (Pair64 × ℕ)) → IsIncreasing pair64_cmp m → points_of (filter (λ e. p e.0) (rows_of m)) ≡ filter (λ e. p (swapped e.0)) m
   points-rows m s =
       let kept = IsIncreasing-filter pair64_cmp (λ (e : Pair64 × ℕ). p e.0) (rows_of m) (rows_increase m) in
       build-is pair64_total pair64_exact (map swapped_entry (filter (λ e. p e.0) (rows_of m))) (filter (λ e. p (swapped e.0)) m) (IsIncreasing-filter pair64_cmp (λ (e : Pair64 × ℕ). p (swapped e.0)) m s) (λ q.
@@ -93,5 +93,5 @@ module _ (p : Pair64 → Bool) where
       ∙ filter-append (λ (e : Pair64 × ℕ). p (swapped e.0)) l r
       ∙ sym (ap₂ (λ a b. a ++ b) (points-rows l (IsIncreasing-front pair64_cmp l r s)) (points-rows r (IsIncreasing-back pair64_cmp l r s)))
 
-pub rows_points-projection : (y1 y2 : ℕ) → IsProjection pair64_cmp row_of [] rows_of_both (rows_points y1 y2) (λ a b. a ++ b)
-rows_points-projection y1 y2 = λ l r s. points-projection (λ k. is_ge (pair64_cmp k (least_at y1)) && is_le (pair64_cmp k (greatest_at y2))) l r s
+pub rows_points_projection : (y1 y2 : ℕ) → IsProjection pair64_cmp row_of [] rows_of_both (rows_points y1 y2) (λ a b. a ++ b)
+rows_points_projection y1 y2 = λ l r s. points-projection (λ k. is_ge (pair64_cmp k (least_at y1)) && is_le (pair64_cmp k (greatest_at y2))) l r s

@@ -1,6 +1,18 @@
-//! A two-level range tree: points in the plane, with the sum and the list of those in a rectangle.
+//! A two-level range tree: points in the plane, with the total and the list of those in a rectangle.
+//!
+//! The outer map has the points by (x, y). The augmented value of each of its parts is the map of the same points by (y, x), with
+//! the sum of their weights.
 #![tactic(auto)]
 
+mod listings;
+mod places;
 mod points;
+mod rows;
+#[cfg(test)]
+mod tests;
+mod totals;
+mod tree;
 
 pub use points::{Point, Rect, Total};
+pub use rows::{Places, Rows};
+pub use tree::Points;

@@ -1,0 +1,5 @@
+mod Counts
+mod Sums
+mod Kept
+mod Inside
+mod Listed

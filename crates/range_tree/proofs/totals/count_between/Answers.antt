@@ -1,0 +1,22 @@
+use Rattle.std.proofs.Common.{◌≡◌, false, is_gt, length, sym, ap, ◌∙◌, arith}
+use Rattle.aug_monoid.specs.Exact.{pair64_cmp}
+use Rattle.map_model.specs.Parts.{left_of, rank}
+use Rattle.range_tree.proofs.Counts.{counted_between, counted_none}
+use Rattle.range_tree.proofs.totals.count_between.Goals as goal
+
+pub returns-then-is_gt : goal.returns-then-is_gt
+returns-then-is_gt g c = counted_none c.args.map.now.entries c.args.lo.now c.args.hi.now (sym (c.is_gt.ensures ∙ ap is_gt c.cmp.ensures) ∙ c.if-is_gt.true)
+
+pub overflow_sub-result : goal.overflow_sub-result
+overflow_sub-result g c =
+    let m = c.args.map.now.entries in
+    let less : c.rank.result ≡ rank pair64_cmp m c.args.lo.now = c.rank.ensures in
+    let between = counted_between m c.args.lo.now c.args.hi.now (sym (c.is_gt.ensures ∙ ap is_gt c.cmp.ensures) ∙ c.if-is_gt.false) in
+    omega (arith, less, between, c.in_ok-upto.ensures)
+
+pub returns : goal.returns
+returns g c =
+    let m = c.args.map.now.entries in
+    let less : c.rank.result ≡ rank pair64_cmp m c.args.lo.now = c.rank.ensures in
+    let between = counted_between m c.args.lo.now c.args.hi.now (sym (c.is_gt.ensures ∙ ap is_gt c.cmp.ensures) ∙ c.if-is_gt.false) in
+    omega (arith, less, between, c.in_ok-upto.ensures)

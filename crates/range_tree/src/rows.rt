@@ -1,0 +1,97 @@
+//! The augmented values of a map of points: the same points by rows.
+ghost use Rattle.std.specs.Prelude.{◌≡◌, []};
+ghost use Rattle.range_tree.specs.Rows.{AreRows, row_increases, row_of, rows_monoid, rows_of_both};
+
+use crate::places::swapped;
+use aug_map::{MapOver, PlainMap};
+use aug_monoid::{Augment, NoMemory, Pair64, Second, Share, Steps, SumMax};
+use std::alloc::Global;
+use std::marker::Model;
+use std::sync::ledger::Ledger;
+
+/// Points by rows: the map from (y, x) to weight, with the sum of the weights. Contracts see the list of its entries.
+#[derive(Drop)]
+pub struct Rows {
+    map: PlainMap<SumMax<Pair64>>,
+}
+
+impl Model for Rows {
+    ghost use Rattle.std.specs.Prelude.{List, ℕ};
+    ghost use Rattle.aug_monoid.specs.declared.pair64.Pair64.{Pair64};
+
+    ghost Value = { List (Pair64 × ℕ) };
+
+    ghost view = { λ r. r.map.entries };
+}
+
+impl Rows {
+    /// Lends the map from (y, x) to weight.
+    pub fn map(&self) -> &PlainMap<SumMax<Pair64>>
+        ensures { result.now.entries ≡ self.now }
+    {
+        &self.map
+    }
+}
+
+impl Share for Rows {
+    ghost never_refuses = { ⊥ };
+
+    fn share(&self, alloc: Global) -> Result<Rows, NoMemory> {
+        let map = self.map.share(alloc)?;
+        Ok(Rows { map })
+    }
+}
+
+/// Maps from places (x, y) to weights, augmented by the same points as rows.
+#[derive(Drop)]
+pub struct Places;
+
+impl Augment for Places {
+    type Key = Pair64;
+
+    type Val = u64;
+
+    type Aug = Rows;
+
+    ghost Fits = { AreRows };
+
+    ghost base_of = { row_of };
+
+    ghost unit_of = { [] };
+
+    ghost combined = { rows_of_both };
+
+    ghost never_refuses = { ⊥ };
+
+    ghost base_fits = { row_increases };
+
+    ghost monoid = { rows_monoid };
+
+    ghost keys_never_refuse = { λ refuses. absurd refuses };
+
+    ghost values_never_refuse = { λ refuses. absurd refuses };
+
+    ghost augs_never_refuse = { λ refuses. absurd refuses };
+
+    fn base(key: &Pair64, val: &u64, alloc: Global) -> Result<Rows, NoMemory> {
+        let map = MapOver::single(alloc, swapped(*key), *val)?;
+        Ok(Rows { map })
+    }
+
+    fn unit() -> Rows {
+        Rows {
+            map: MapOver::empty(),
+        }
+    }
+
+    fn combine<C: Ledger>(
+        a: &Rows,
+        b: &Rows,
+        alloc: Global,
+        steps: &mut Steps<C>,
+    ) -> Result<Rows, NoMemory> {
+        steps.tick();
+        let map = MapOver::merge(alloc, &a.map, &b.map, &Second)?;
+        Ok(Rows { map })
+    }
+}

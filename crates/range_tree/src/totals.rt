@@ -1,0 +1,124 @@
+//! Totals of rows.
+ghost use Rattle.std.specs.Prelude.{◌≡◌, ◌<◌, length, IfOk};
+ghost use Rattle.aug_monoid.specs.Exact.{pair64_cmp};
+ghost use Rattle.map_model.specs.Parts.{left_of, slice};
+ghost use Rattle.range_tree.specs.Points.{weight_sum};
+ghost use Rattle.range_tree.specs.Totals.{TotalFits, capped, rows_projection, rows_total, rows_total_fits, total_both, total_monoid};
+
+use crate::places::{greatest_at, least_at};
+use crate::points::Total;
+use crate::rows::{Places, Rows};
+use aug_map::PlainMap;
+use aug_monoid::{NoMemory, Pair64, Project, Steps, SumMax};
+use std::alloc::Global;
+use std::marker::Brand;
+use std::sync::ledger::{Blank, Ledger};
+
+/// The total of the points with y from `y1` to `y2`.
+#[derive(Drop)]
+pub(crate) struct RowTotal {
+    pub(crate) y1: u64,
+    pub(crate) y2: u64,
+}
+
+impl Project<Places> for RowTotal {
+    type Out = Total;
+
+    ghost Fits = { λ _. TotalFits };
+
+    ghost image_of = { λ s rows. rows_total s.y1 s.y2 rows };
+
+    ghost met = { λ _. total_both };
+
+    ghost image_fits = { λ s rows _. rows_total_fits s.y1 s.y2 rows };
+
+    ghost monoid = { λ _. total_monoid };
+
+    ghost projection = { λ s. rows_projection s.y1 s.y2 };
+
+    fn image(&self, alloc: Global, aug: &Rows) -> Result<Total, NoMemory> {
+        total_uncounted::<Brand>(
+            alloc,
+            aug.map(),
+            &least_at(self.y1),
+            &greatest_at(self.y2),
+            Blank::new(1),
+        )
+    }
+
+    fn meet(&self, _alloc: Global, a: Total, b: Total) -> Result<Total, NoMemory> {
+        Ok(Total {
+            sum: a.sum.saturating_add(b.sum),
+            count: a.count.saturating_add(b.count),
+        })
+    }
+}
+
+/// How many entries have keys up to `key`.
+#[tactic(auto, using(crate::proofs::Counts::counted_found, crate::proofs::Counts::counted_absent, crate::proofs::Counts::rank_fits))]
+fn count_upto<C: Ledger>(
+    alloc: Global,
+    map: &PlainMap<SumMax<Pair64>>,
+    key: &Pair64,
+    steps: &mut Steps<C>,
+) -> Result<u64, NoMemory>
+    ensures { IfOk result (λ count. count ≡ length (left_of pair64_cmp map.now.entries key.now)) }
+{
+    let _number = map.size();
+    let less = map.rank(key, steps);
+    match map.get(alloc, key, steps)? {
+        Some(_) => Ok(less + 1),
+        None => Ok(less),
+    }
+}
+
+/// How many entries have keys from `lo` to `hi`.
+#[tactic(auto, using(crate::proofs::Counts::counted_between, crate::proofs::Counts::counted_none))]
+fn count_between<C: Ledger>(
+    alloc: Global,
+    map: &PlainMap<SumMax<Pair64>>,
+    lo: &Pair64,
+    hi: &Pair64,
+    steps: &mut Steps<C>,
+) -> Result<u64, NoMemory>
+    ensures { IfOk result (λ count. count ≡ length (slice pair64_cmp map.now.entries lo.now hi.now)) }
+{
+    if lo.cmp(hi).is_gt() {
+        return Ok(0);
+    }
+    let upto = count_upto(alloc, map, hi, steps)?;
+    Ok(upto - map.rank(lo, steps))
+}
+
+/// The total of the entries with keys from `lo` to `hi`.
+fn total_between<C: Ledger>(
+    alloc: Global,
+    map: &PlainMap<SumMax<Pair64>>,
+    lo: &Pair64,
+    hi: &Pair64,
+    steps: &mut Steps<C>,
+) -> Result<Total, NoMemory>
+    ensures { IfOk result (λ total. total ≡ capped (weight_sum (slice pair64_cmp map.now.entries lo.now hi.now)) (length (slice pair64_cmp map.now.entries lo.now hi.now))) }
+{
+    let _number = map.size();
+    let sum = map.aug_range(alloc, lo, hi, steps)?.sum;
+    let count = count_between(alloc, map, lo, hi, steps)?;
+    Ok(Total { sum, count })
+}
+
+// The same, with no steps counted.
+fn total_uncounted<C: Ledger>(
+    alloc: Global,
+    map: &PlainMap<SumMax<Pair64>>,
+    lo: &Pair64,
+    hi: &Pair64,
+    blank: Blank,
+) -> Result<Total, NoMemory>
+    requires name { blank.name ≡ C.name }
+    requires parts { blank.parts ≡ C.parts }
+    requires some { 0 < blank.parts }
+    ensures { IfOk result (λ total. total ≡ capped (weight_sum (slice pair64_cmp map.now.entries lo.now hi.now)) (length (slice pair64_cmp map.now.entries lo.now hi.now))) }
+{
+    let mut steps = Steps::<C>::start(blank);
+    total_between(alloc, map, lo, hi, &mut steps)
+}

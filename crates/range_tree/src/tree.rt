@@ -1,0 +1,177 @@
+//! Points in the plane.
+ghost use Rattle.std.specs.Prelude.{◌≡◌, [], length, map, IfOk};
+ghost use Rattle.aug_monoid.specs.Exact.{pair64_cmp};
+ghost use Rattle.map_model.specs.Entries.{AllKeys, IsIncreasing};
+ghost use Rattle.map_model.specs.Operations.{after, dels, puts};
+ghost use Rattle.range_tree.specs.Places.{IsPlace};
+ghost use Rattle.range_tree.specs.Points.{entry_of, inside, point_of, total_of};
+
+use crate::listings::RowPoints;
+use crate::places::{greatest_at, least_at};
+use crate::points::{Point, Rect, Total};
+use crate::rows::Places;
+use crate::totals::RowTotal;
+use aug_map::{MapOver, PlainMap};
+use aug_monoid::{NoMemory, Pair64, Share};
+use fork_join::{Cut, Gate};
+use std::alloc::Global;
+use std::marker::{Model, Sync};
+use std::thread::Threads;
+
+/// Points in the plane, one at a place. Contracts see the map from (x, y) to weight. No call changes its arguments.
+#[derive(Drop)]
+pub struct Points {
+    map: PlainMap<Places>,
+}
+
+impl Model for Points {
+    ghost use Rattle.std.specs.Prelude.{List, ℕ};
+    ghost use Rattle.aug_monoid.specs.declared.pair64.Pair64.{Pair64};
+    ghost use Rattle.map_model.specs.Entries.{AllKeys};
+    ghost use Rattle.range_tree.specs.Places.{IsPlace};
+
+    ghost Value = { List (Pair64 × ℕ) };
+
+    ghost view = { λ p. p.map.entries };
+
+    ghost invariant = { λ p. AllKeys IsPlace p.map.entries };
+}
+
+impl Share for Points {
+    ghost never_refuses = { ⊥ };
+
+    fn share(&self, alloc: Global) -> Result<Points, NoMemory> {
+        let map = self.map.share(alloc)?;
+        Ok(Points { map })
+    }
+}
+
+impl Points {
+    /// No points. It takes no memory.
+    pub fn new() -> Points
+        ensures { result ≡ [] }
+    {
+        Points {
+            map: MapOver::empty(),
+        }
+    }
+
+    /// How many points there are.
+    pub fn size(&self) -> u64
+        ensures value { result ≡ length self.now }
+        ensures increasing { IsIncreasing pair64_cmp self.now }
+    {
+        self.map.size()
+    }
+
+    /// Lends the map from (x, y) to weight.
+    pub fn map(&self) -> &PlainMap<Places>
+        ensures { result.now.entries ≡ self.now }
+    {
+        &self.map
+    }
+
+    /// With these points set in order, so that a later point replaces an earlier one at its place. It is one bulk operation, which
+    /// forks where the cut allows it.
+    #[tactic(auto, using(crate::proofs::Kept::all_after_puts))]
+    pub fn add<R: Threads + Sync, G: Gate>(
+        &self,
+        rt: &R,
+        alloc: Global,
+        gate: &G,
+        cut: Cut,
+        points: &[Point],
+    ) -> Result<Points, NoMemory>
+        ensures { IfOk result (λ more. more ≡ after pair64_cmp self.now (puts (map entry_of points.now))) }
+    {
+        let entries = entries_of(alloc, points)?;
+        let map = self.map.multi_put(rt, alloc, gate, cut, &entries)?;
+        Ok(Points { map })
+    }
+
+    /// Without the points at these places (x, y); places that have none change nothing. It is one bulk operation, which forks where
+    /// the cut allows it.
+    #[tactic(auto, using(crate::proofs::Kept::all_after_dels))]
+    pub fn del<R: Threads + Sync, G: Gate>(
+        &self,
+        rt: &R,
+        alloc: Global,
+        gate: &G,
+        cut: Cut,
+        places: &[Pair64],
+    ) -> Result<Points, NoMemory>
+        ensures { IfOk result (λ fewer. fewer ≡ after pair64_cmp self.now (dels places.now)) }
+    {
+        let map = self.map.multi_del(rt, alloc, gate, cut, places)?;
+        Ok(Points { map })
+    }
+
+    /// The total of the points in a rectangle, in about the square of the logarithm of the number of points.
+    #[tactic(auto, using(crate::proofs::Inside::total_is_inside))]
+    pub fn sum(&self, alloc: Global, rect: Rect) -> Result<Total, NoMemory>
+        ensures { IfOk result (λ total. total ≡ total_of (inside rect self.now)) }
+    {
+        let _number = self.map.size();
+        let how = RowTotal {
+            y1: rect.y1,
+            y2: rect.y2,
+        };
+        self.map
+            .aug_project(alloc, &least_at(rect.x1), &greatest_at(rect.x2), &how)
+    }
+
+    /// The points in a rectangle by (x, y), in about the time of `sum` and the time to sort them.
+    #[tactic(auto, using(crate::proofs::Inside::points_are_inside))]
+    pub fn list(&self, alloc: Global, rect: Rect) -> Result<Vec<Point>, NoMemory>
+        ensures { IfOk result (λ list. list.items ≡ map point_of (inside rect self.now)) }
+    {
+        let _number = self.map.size();
+        let how = RowPoints {
+            y1: rect.y1,
+            y2: rect.y2,
+        };
+        let listed = self
+            .map
+            .aug_project(alloc, &least_at(rect.x1), &greatest_at(rect.x2), &how)?;
+        points_of(alloc, listed.entries())
+    }
+}
+
+/// Points as entries of the map.
+#[tactic(auto, using(crate::proofs::Kept::entries_more, crate::proofs::Kept::places_more))]
+fn entries_of(alloc: Global, points: &[Point]) -> Result<Vec<(Pair64, u64)>, NoMemory>
+    ensures same { IfOk result (λ entries. entries.items ≡ map entry_of points.now) }
+    ensures fit { IfOk result (λ entries. AllKeys IsPlace entries.items) }
+{
+    let mut entries = Vec::with_capacity(alloc, points.len())?;
+    for point in points {
+        entries.push(entry_of(*point))?;
+    }
+    Ok(entries)
+}
+
+fn entry_of(point: Point) -> (Pair64, u64)
+    ensures same { result ≡ entry_of point }
+    ensures fit { IsPlace result.0 }
+{
+    let place = Pair64 {
+        first: point.x,
+        second: point.y,
+    };
+    (place, point.weight)
+}
+
+/// Entries of the map as points.
+fn points_of(alloc: Global, entries: &[(Pair64, u64)]) -> Result<Vec<Point>, NoMemory>
+    ensures { IfOk result (λ points. points.items ≡ map point_of entries.now) }
+{
+    let points = entries
+        .iter()
+        .map(|entry| Point {
+            x: entry.0.first,
+            y: entry.0.second,
+            weight: entry.1,
+        })
+        .collect(alloc)?;
+    Ok(points)
+}
