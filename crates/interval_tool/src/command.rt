@@ -1,7 +1,7 @@
 //! One command of the tool interval.
 ghost use Rattle.std.specs.Prelude.{◌≡◌, ◌++◌, OnOk};
 ghost use Rattle.interval_map.specs.Intervals.{stab};
-ghost use Rattle.interval_tool.specs.Effects.{any_line, interval_after, interval_reply};
+ghost use Rattle.interval_tool.specs.Effects.{any_line, count_line, interval_after, interval_reply};
 ghost use Rattle.script.specs.Interval.{HasEnds};
 
 use crate::hits::hits_line;
@@ -9,6 +9,13 @@ use aug_monoid::NoMemory;
 use interval_map::Intervals;
 use script::{IntervalCommand, line};
 use std::alloc::Global;
+
+// Appends a word and how many intervals there are.
+fn count_line(text: &mut Vec<u8>, word: &str, intervals: &Intervals) -> Result<(), NoMemory>
+    ensures { OnOk result (text.new.items ≡ text.old.items ++ count_line word.now intervals.now) }
+{
+    line(text, word, &[intervals.size()])
+}
 
 // Appends whether an interval has `p`.
 fn any_line(
@@ -40,13 +47,13 @@ pub(crate) fn run_command(
     match command {
         IntervalCommand::Add { l, r, .. } => {
             *intervals = intervals.add(alloc, *l, *r)?;
-            line(text, "ok", &[intervals.size()])
+            count_line(text, "ok", intervals)
         }
         IntervalCommand::Del { l, r, .. } => {
             *intervals = intervals.del(alloc, *l, *r)?;
-            line(text, "ok", &[intervals.size()])
+            count_line(text, "ok", intervals)
         }
-        IntervalCommand::Size { .. } => line(text, "size", &[intervals.size()]),
+        IntervalCommand::Size { .. } => count_line(text, "size", intervals),
         IntervalCommand::Any { p, .. } => any_line(alloc, text, intervals, *p),
         IntervalCommand::Stab { p, .. } => {
             let hits = intervals.stab(alloc, *p)?;
