@@ -1,6 +1,5 @@
 -- What the definitions of the replies of the tools interval, points, index and graph give on worked examples.
-use Rattle.std.proofs.Common.{◌≡◌, [], ◌∷◌, ℕ, List, codes, refl}
-use Rattle.aug_monoid.specs.declared.pair64.Pair64.{Pair64}
+use Rattle.std.proofs.Common.{◌≡◌, [], ◌∷◌, ℕ, codes, refl}
 use Rattle.graph_tool.specs.Effects.{graph_after, graph_reply, no_graphs}
 use Rattle.index_tool.specs.Effects.{index_after, index_reply}
 use Rattle.interval_tool.specs.Effects.{interval_after, interval_reply}
