@@ -35,9 +35,13 @@ capped sum count = record { sum = min sum (2 ^ 64 - 1); count = min count (2 ^ 6
 abbrev pub total_both : Total → Total → Total
 total_both a b = capped (a.sum + b.sum) (a.count + b.count)
 
+-- the sum of the weights and how many points there are
+abbrev pub capped_total : List (Pair64 × ℕ) → Total
+capped_total m = capped (weight_sum m) (length m)
+
 -- of the points of some rows with y from y1 to y2
 abbrev pub rows_total : ℕ → ℕ → List (Pair64 × ℕ) → Total
-rows_total y1 y2 rows = capped (weight_sum (lines y1 y2 rows)) (length (lines y1 y2 rows))
+rows_total y1 y2 rows = capped_total (lines y1 y2 rows)
 
 same_total : (a b c d : ℕ) → a ≡ b → c ≡ d → ◌≡◌ {A = Total} (record { sum = a; count = c }) (record { sum = b; count = d })
 same_total a b c d e f = ap₂ (λ (x y : ℕ). let t : Total = record { sum = x; count = y } in t) e f

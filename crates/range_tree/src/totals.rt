@@ -2,8 +2,7 @@
 ghost use Rattle.std.specs.Prelude.{◌≡◌, ◌<◌, length, IfOk};
 ghost use Rattle.aug_monoid.specs.Exact.{pair64_cmp};
 ghost use Rattle.map_model.specs.Parts.{left_of, slice};
-ghost use Rattle.range_tree.specs.Points.{weight_sum};
-ghost use Rattle.range_tree.specs.Totals.{TotalFits, capped, rows_projection, rows_total, rows_total_fits, total_both, total_monoid};
+ghost use Rattle.range_tree.specs.Totals.{TotalFits, capped_total, rows_projection, rows_total, rows_total_fits, total_both, total_monoid};
 
 use crate::places::{greatest_at, least_at};
 use crate::points::Total;
@@ -55,7 +54,6 @@ impl Project<Places> for RowTotal {
 }
 
 /// How many entries have keys up to `key`.
-#[tactic(auto, using(crate::proofs::Counts::counted_found, crate::proofs::Counts::counted_absent, crate::proofs::Counts::rank_fits))]
 fn count_upto<C: Ledger>(
     alloc: Global,
     map: &PlainMap<SumMax<Pair64>>,
@@ -73,7 +71,6 @@ fn count_upto<C: Ledger>(
 }
 
 /// How many entries have keys from `lo` to `hi`.
-#[tactic(auto, using(crate::proofs::Counts::counted_between, crate::proofs::Counts::counted_none))]
 fn count_between<C: Ledger>(
     alloc: Global,
     map: &PlainMap<SumMax<Pair64>>,
@@ -98,7 +95,7 @@ fn total_between<C: Ledger>(
     hi: &Pair64,
     steps: &mut Steps<C>,
 ) -> Result<Total, NoMemory>
-    ensures { IfOk result (λ total. total ≡ capped (weight_sum (slice pair64_cmp map.now.entries lo.now hi.now)) (length (slice pair64_cmp map.now.entries lo.now hi.now))) }
+    ensures { IfOk result (λ total. total ≡ capped_total (slice pair64_cmp map.now.entries lo.now hi.now)) }
 {
     let _number = map.size();
     let sum = map.aug_range(alloc, lo, hi, steps)?.sum;
@@ -117,7 +114,7 @@ fn total_uncounted<C: Ledger>(
     requires name { blank.name ≡ C.name }
     requires parts { blank.parts ≡ C.parts }
     requires some { 0 < blank.parts }
-    ensures { IfOk result (λ total. total ≡ capped (weight_sum (slice pair64_cmp map.now.entries lo.now hi.now)) (length (slice pair64_cmp map.now.entries lo.now hi.now))) }
+    ensures { IfOk result (λ total. total ≡ capped_total (slice pair64_cmp map.now.entries lo.now hi.now)) }
 {
     let mut steps = Steps::<C>::start(blank);
     total_between(alloc, map, lo, hi, &mut steps)

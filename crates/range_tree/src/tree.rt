@@ -107,7 +107,6 @@ impl Points {
     }
 
     /// The total of the points in a rectangle, in about the square of the logarithm of the number of points.
-    #[tactic(auto, using(crate::proofs::Inside::total_is_inside))]
     pub fn sum(&self, alloc: Global, rect: Rect) -> Result<Total, NoMemory>
         ensures { IfOk result (λ total. total ≡ total_of (inside rect self.now)) }
     {
@@ -121,7 +120,6 @@ impl Points {
     }
 
     /// The points in a rectangle by (x, y), in about the time of `sum` and the time to sort them.
-    #[tactic(auto, using(crate::proofs::Inside::points_are_inside))]
     pub fn list(&self, alloc: Global, rect: Rect) -> Result<Vec<Point>, NoMemory>
         ensures { IfOk result (λ list. list.items ≡ map point_of (inside rect self.now)) }
     {
@@ -138,7 +136,6 @@ impl Points {
 }
 
 /// Points as entries of the map.
-#[tactic(auto, using(crate::proofs::Kept::entries_more, crate::proofs::Kept::places_more))]
 fn entries_of(alloc: Global, points: &[Point]) -> Result<Vec<(Pair64, u64)>, NoMemory>
     ensures same { IfOk result (λ entries. entries.items ≡ map entry_of points.now) }
     ensures fit { IfOk result (λ entries. AllKeys IsPlace entries.items) }
@@ -150,6 +147,7 @@ fn entries_of(alloc: Global, points: &[Point]) -> Result<Vec<(Pair64, u64)>, NoM
     Ok(entries)
 }
 
+/// A point as an entry of the map.
 fn entry_of(point: Point) -> (Pair64, u64)
     ensures same { result ≡ entry_of point }
     ensures fit { IsPlace result.0 }
