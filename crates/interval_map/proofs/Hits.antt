@@ -1,7 +1,7 @@
 -- Intervals by where they begin and end.
 use Rattle.std.proofs.Common.{◌≡◌, ℕ, ◌-◌, ◌^◌, ◌<◌, ◌&&◌, ◌||◌, ◌↔◌, IsTrue, Bool, true, false, cond, List, [], ◌∷◌, None, Some, nat_le, refl, ap, ◌∙◌, arith}
 use Rattle.std.proofs.lemmas.Bool.Decides.{nat_tests}
-use Rattle.std.specs.List.{AllByRecursion, filter}
+use Rattle.std.specs.List.{AllByRecursion}
 use Rattle.std.specs.Map.{keys_of}
 use Rattle.std.specs.Ordering.{is_ge, is_le}
 use Rattle.aug_monoid.specs.Exact.{pair64_cmp}
