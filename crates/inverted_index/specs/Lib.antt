@@ -1,3 +1,4 @@
 pub mod Terms
 pub mod Queries
 pub mod Documents
+pub mod Ranks
