@@ -16,21 +16,12 @@ use Rattle.map_model.proofs.Unions.{united, lookup-union}
 use Rattle.map_model.proofs.NatKeys.{nat_exact}
 use Rattle.inverted_index.specs.Terms.{bytes_cmp}
 use Rattle.inverted_index.specs.Documents.{IsIndex, documents_of, terms_in}
+use Rattle.inverted_index.specs.Merging.{Lists, common, joined, postings_at, sat}
 use Rattle.inverted_index.specs.Queries.{Document, all_of, any_of, having, has, if_filled, inverted, picked, total_in, weight_in, without}
-use Rattle.inverted_index.proofs.Postings.{Lists, postings_at, lookup-terms_in, answered}
+use Rattle.inverted_index.proofs.Documents.{lookup-terms_in, answered}
 
 abbrev pub limit : ℕ
 limit = 2 ^ 64 - 1
-
--- weights met
-abbrev pub sat : ℕ → ℕ → ℕ
-sat a b = min (a + b) limit
-
-abbrev pub common : List (ℕ × ℕ) → List (List (ℕ × ℕ)) → List (ℕ × ℕ)
-common a ps = fold (λ x p. intersect nat_cmp sat x p) a ps
-
-abbrev pub joined : List (ℕ × ℕ) → List (List (ℕ × ℕ)) → List (ℕ × ℕ)
-joined a ps = fold (λ x p. union nat_cmp sat x p) a ps
 
 -- the weight of a document in postings, 0 where they haven't it
 abbrev pub weight_at : ℕ → List (ℕ × ℕ) → ℕ
@@ -144,14 +135,14 @@ module _ (D : List (ℕ × ℕ)) (P : Lists) (index : IsIndex D P) where
 
   pub having-postings : (t : List ℕ) → postings_at P t ≡ having (documents_of D P) t
   having-postings t = answered (has t) (λ d. weight_in d t) P D (postings_at P t) index.known_rise (rises_at t).0 (λ q.
-    known_only (is_some (lookup nat_cmp D q)) (lookup nat_cmp (postings_at P t) q) (known_at t q)
-    ∙ ap (λ o. cond (is_some (lookup nat_cmp D q)) o None) (some_value (lookup nat_cmp (postings_at P t) q) ∙ sym (ap₂ (λ b w. cond b (Some w) None) (has_term q t) (weighs_term q t))))
+      known_only (is_some (lookup nat_cmp D q)) (lookup nat_cmp (postings_at P t) q) (known_at t q)
+      ∙ ap (λ o. cond (is_some (lookup nat_cmp D q)) o None) (some_value (lookup nat_cmp (postings_at P t) q) ∙ sym (ap₂ (λ b w. cond b (Some w) None) (has_term q t) (weighs_term q t))))
 
   pub without-difference : (s t : List ℕ) → difference nat_cmp (postings_at P s) (postings_at P t) ≡ without (documents_of D P) s t
   without-difference s t = answered (λ d. has s d && not (has t d)) (λ d. weight_in d s) P D (difference nat_cmp (postings_at P s) (postings_at P t)) index.known_rise (IsIncreasing-difference nat_cmp (postings_at P s) (postings_at P t) (rises_at s).0) (λ q.
-    lookup-difference nat_exact (postings_at P s) (postings_at P t) q
-    ∙ known_only (is_some (lookup nat_cmp D q)) (left q) (λ w is. known_at s q w (first (is_none (lookup nat_cmp (postings_at P t) q)) (lookup nat_cmp (postings_at P s) q) w is))
-    ∙ ap (λ o. cond (is_some (lookup nat_cmp D q)) o None) (differs (lookup nat_cmp (postings_at P s) q) (lookup nat_cmp (postings_at P t) q) ∙ sym (ap₂ (λ b w. cond b (Some w) None) (ap₂ (λ a b. a && not b) (has_term q s) (has_term q t)) (weighs_term q s))))
+      lookup-difference nat_exact (postings_at P s) (postings_at P t) q
+      ∙ known_only (is_some (lookup nat_cmp D q)) (left q) (λ w is. known_at s q w (first (is_none (lookup nat_cmp (postings_at P t) q)) (lookup nat_cmp (postings_at P s) q) w is))
+      ∙ ap (λ o. cond (is_some (lookup nat_cmp D q)) o None) (differs (lookup nat_cmp (postings_at P s) q) (lookup nat_cmp (postings_at P t) q) ∙ sym (ap₂ (λ b w. cond b (Some w) None) (ap₂ (λ a b. a && not b) (has_term q s) (has_term q t)) (weighs_term q s))))
     where
       left : ℕ → Option ℕ
       left q = cond (is_none (lookup nat_cmp (postings_at P t) q)) (lookup nat_cmp (postings_at P s) q) None
@@ -168,9 +159,9 @@ module _ (D : List (ℕ × ℕ)) (P : Lists) (index : IsIndex D P) where
 
   pub all_of-common : (terms : List (List ℕ)) (ps : List (List (ℕ × ℕ))) → IsPermutation (map (postings_at P) terms) ps → IsIncreasing nat_cmp (common D ps) → common D ps ≡ all_of (documents_of D P) terms
   all_of-common terms ps moved rises = answered (λ d. list_all (λ t. has t d) terms) (λ d. total_in d terms) P D (common D ps) index.known_rise rises (λ q.
-    lookup-common ps D q
-    ∙ start q (lookup nat_cmp D q) (index.zero_weights q)
-    ∙ ap (λ o. cond (is_some (lookup nat_cmp D q)) o None) (ap₂ (λ b n. cond b (Some (min n limit)) None)
+      lookup-common ps D q
+      ∙ start q (lookup nat_cmp D q) (index.zero_weights q)
+      ∙ ap (λ o. cond (is_some (lookup nat_cmp D q)) o None) (ap₂ (λ b n. cond b (Some (min n limit)) None)
       (list_all-IsPermutation (has_at q) (map (postings_at P) terms) ps moved ∙ list_all-map (has_at q) (postings_at P) terms ∙ all_alike (λ t. has_at q (postings_at P t)) (λ t. has t (q, terms_in P q)) (λ t. sym (has_term q t)) terms)
       (sum_by-IsPermutation (weight_at q) (map (postings_at P) terms) ps moved ∙ sym (total_terms q terms))))
     where
@@ -180,11 +171,11 @@ module _ (D : List (ℕ × ℕ)) (P : Lists) (index : IsIndex D P) where
 
   pub any_of-joined : (terms : List (List ℕ)) → IsIncreasing nat_cmp (joined [] (map (postings_at P) terms)) → joined [] (map (postings_at P) terms) ≡ any_of (documents_of D P) terms
   any_of-joined terms rises = answered (λ d. list_any (λ t. has t d) terms) (λ d. total_in d terms) P D (joined [] (map (postings_at P) terms)) index.known_rise rises (λ q.
-    let ps = map (postings_at P) terms in
-    lookup-joined ps [] q (all_rise terms)
-    ∙ joined_value q ps (all_rise terms)
-    ∙ known_only (is_some (lookup nat_cmp D q)) (cond (list_any (has_at q) ps) (Some (min (sum_by (weight_at q) ps) limit)) None) (λ w is. known_any q terms (chosen (list_any (has_at q) ps) (min (sum_by (weight_at q) ps) limit) w is))
-    ∙ ap (λ o. cond (is_some (lookup nat_cmp D q)) o None) (ap₂ (λ b n. cond b (Some (min n limit)) None)
+      let ps = map (postings_at P) terms in
+      lookup-joined ps [] q (all_rise terms)
+      ∙ joined_value q ps (all_rise terms)
+      ∙ known_only (is_some (lookup nat_cmp D q)) (cond (list_any (has_at q) ps) (Some (min (sum_by (weight_at q) ps) limit)) None) (λ w is. known_any q terms (chosen (list_any (has_at q) ps) (min (sum_by (weight_at q) ps) limit) w is))
+      ∙ ap (λ o. cond (is_some (lookup nat_cmp D q)) o None) (ap₂ (λ b n. cond b (Some (min n limit)) None)
       (list_any-map (has_at q) (postings_at P) terms ∙ any_alike (λ t. has_at q (postings_at P t)) (λ t. has t (q, terms_in P q)) (λ t. sym (has_term q t)) terms)
       (sym (total_terms q terms))))
     where
@@ -201,8 +192,8 @@ module _ (D : List (ℕ × ℕ)) (P : Lists) (index : IsIndex D P) where
           ] refl is
 
   -- the postings of each term
-  pub inverted-lists : (t : List ℕ) → lookup bytes_cmp P t ≡ inverted (documents_of D P) t
-  inverted-lists t = filled (lookup bytes_cmp P t) refl ∙ ap if_filled (having-postings t)
+  pub inverted_lists : (t : List ℕ) → lookup bytes_cmp P t ≡ inverted (documents_of D P) t
+  inverted_lists t = filled (lookup bytes_cmp P t) refl ∙ ap if_filled (having-postings t)
     where
       filled : (o : Option (List (ℕ × ℕ))) → lookup bytes_cmp P t ≡ o → o ≡ if_filled (postings_at P t)
       filled None is = rw is refl

@@ -32,9 +32,9 @@ module _ {K V W : Type 0} {order : K → K → Ordering} (total : IsTotalOrder o
       elim (order e.0 q) as (λ o. order e.0 q ≡ o → lookup order (cons_option (option_map (λ w. (e.0, w)) (h e)) (kept h m)) q ≡ option_and_then (λ v. h (q, v)) (cond (is_eq o) (Some e.1) (lookup order m q))) [
         | Less ↦ λ is. elim (h e) as (λ o. lookup order (cons_option (option_map (λ w. (e.0, w)) o) (kept h m)) q ≡ option_and_then (λ v. h (q, v)) (lookup order m q)) [ None ↦ rest | Some w ↦ rw is rest ]
         | Equal ↦ λ is. elim (h e) as (λ o. lookup order (cons_option (option_map (λ w. (e.0, w)) o) (kept h m)) q ≡ o) [
-            | None ↦ rest ∙ ap (option_and_then (λ v. h (q, v))) (lookup-behind total e m q s is)
-            | Some w ↦ rw is refl
-          ] ∙ ap (λ k. h (k, e.1)) (exact e.0 q is)
+          | None ↦ rest ∙ ap (option_and_then (λ v. h (q, v))) (lookup-behind total e m q s is)
+          | Some w ↦ rw is refl
+        ] ∙ ap (λ k. h (k, e.1)) (exact e.0 q is)
         | Greater ↦ λ is. elim (h e) as (λ o. lookup order (cons_option (option_map (λ w. (e.0, w)) o) (kept h m)) q ≡ option_and_then (λ v. h (q, v)) (lookup order m q)) [ None ↦ rest | Some w ↦ rw is rest ]
       ] refl
 

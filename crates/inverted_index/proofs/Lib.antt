@@ -1,6 +1,7 @@
 pub mod Kept
-pub mod Postings
-pub mod Adding
+pub mod Documents
+pub mod OneMore
 pub mod Gathering
 pub mod Ranks
 pub mod Tallies
+pub mod Texts

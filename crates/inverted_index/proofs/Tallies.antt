@@ -9,15 +9,18 @@ use Rattle.std.proofs.lemmas.List.Sums.{sum_by-append, sum_by-cons, count_by-le-
 use Rattle.std.proofs.lemmas.Map.Lookups.{exact_bytes}
 use Rattle.std.proofs.lemmas.Option.{same_Some}
 use Rattle.map_model.specs.Entries.{IsIncreasing, lookup}
-use Rattle.map_model.specs.Operations.{last_at}
+use Rattle.map_model.specs.Operations.{build, last_at}
 use Rattle.map_model.specs.SetOperations.{union}
-use Rattle.map_model.proofs.Operations.{build-is, last_at-cons}
-use Rattle.map_model.proofs.Unions.{united, lookup-union}
+use Rattle.map_model.proofs.Lookups.{option_or-none}
+use Rattle.map_model.proofs.Operations.{IsIncreasing-build, build-increasing, build-is, last_at-cons, lookup-after_puts}
+use Rattle.map_model.proofs.Unions.{IsIncreasing-union, united, lookup-union}
 use Rattle.inverted_index.specs.Terms.{bytes_cmp, tally, times}
-use Rattle.inverted_index.proofs.Gathering.{limit, sat}
+use Rattle.inverted_index.specs.Merging.{batch, sat, single}
+use Rattle.inverted_index.proofs.Gathering.{limit}
+use Rattle.inverted_index.proofs.Kept.{IsIncreasing-revalued}
 
 -- a number of times, absent for none
-abbrev pub counted : ℕ → Option ℕ
+abbrev counted : ℕ → Option ℕ
 counted zero = None
 counted (suc n) = Some (suc n)
 
@@ -39,16 +42,13 @@ counted-join (suc m) zero low = sym (counted-some (suc m + 0) (omega arith) ∙ 
 counted-join (suc m) (suc n) low = sym (counted-some (suc m + suc n) (omega arith) ∙ ap Some (omega arith))
 
 -- a map has how often each term is among some
-abbrev pub Counts : List (List ℕ × ℕ) → List (List ℕ) → Type 0
+abbrev Counts : List (List ℕ × ℕ) → List (List ℕ) → Type 0
 Counts m terms = (q : List ℕ) → lookup bytes_cmp m q ≡ counted (times terms q)
 
-pub counts_none : Counts [] []
-counts_none q = refl
-
-pub counts_one : (t : List ℕ) → Counts ((t, 1) ∷ []) (t ∷ [])
+counts_one : (t : List ℕ) → Counts ((t, 1) ∷ []) (t ∷ [])
 counts_one t q = elim (is_eq (bytes_cmp t q)) as (λ b. cond b (Some 1) None ≡ counted (0 + cond b 1 0)) [ true ↦ refl | false ↦ refl ]
 
-pub counts_both : (a b : List (List ℕ × ℕ)) (l r : List (List ℕ)) → length (l ++ r) ≤ limit → IsIncreasing bytes_cmp b → Counts a l → Counts b r → Counts (union bytes_cmp sat a b) (l ++ r)
+counts_both : (a b : List (List ℕ × ℕ)) (l r : List (List ℕ)) → length (l ++ r) ≤ limit → IsIncreasing bytes_cmp b → Counts a l → Counts b r → Counts (union bytes_cmp sat a b) (l ++ r)
 counts_both a b l r low s here there q =
     let whole : times (l ++ r) q ≡ times l q + times r q = sum_by-append (λ t. cond (is_eq (bytes_cmp t q)) 1 0) l r in
     let fits : times (l ++ r) q ≤ length (l ++ r) = count_by-le-length (λ t. is_eq (bytes_cmp t q)) (l ++ r) in
@@ -94,11 +94,30 @@ last-times g (t ∷ terms) q =
     ] refl
     ∙ ap (λ n. cond_counted n (g q)) (sym (sum_by-cons (λ t. cond (is_eq (bytes_cmp t q)) 1 0) t terms))
 
-pub tallied : (m : List (List ℕ × ℕ)) (terms : List (List ℕ)) → IsIncreasing bytes_cmp m → Counts m terms → m ≡ tally terms
+tallied : (m : List (List ℕ × ℕ)) (terms : List (List ℕ)) → IsIncreasing bytes_cmp m → Counts m terms → m ≡ tally terms
 tallied m terms s counts = sym (build-is nat_list_cmp_total exact_bytes (map (λ t. (t, times terms t)) terms) m s (λ q. counts q ∙ itself (times terms q) ∙ sym (last-times (times terms) terms q)))
 
-pub counts_fit : (m : List (List ℕ × ℕ)) (terms : List (List ℕ)) → length terms ≤ limit → Counts m terms → (t : List ℕ) (w : ℕ) → lookup bytes_cmp m t ≡ Some w → w ≤ limit
-counts_fit m terms low counts t w is =
-    let same : times terms t ≡ w = counted-value (times terms t) w (sym (counts t) ∙ is) in
+tally_counts : (terms : List (List ℕ)) → Counts (tally terms) terms
+tally_counts terms q =
+    lookup-after_puts nat_list_cmp_total exact_bytes (map (λ t. (t, times terms t)) terms) [] q
+    ∙ option_or-none (last_at bytes_cmp (map (λ t. (t, times terms t)) terms) q)
+    ∙ last-times (times terms) terms q
+    ∙ sym (itself (times terms q))
+
+pub tally_rises : (terms : List (List ℕ)) → IsIncreasing bytes_cmp (tally terms)
+tally_rises terms = IsIncreasing-build nat_list_cmp_total (map (λ t. (t, times terms t)) terms)
+
+pub tally_one : (t : List ℕ) → (t, 1) ∷ [] ≡ tally (t ∷ [])
+tally_one t = tallied ((t, 1) ∷ []) (t ∷ []) (tt, tt) (counts_one t)
+
+pub tally_both : (l r : List (List ℕ)) → length (l ++ r) ≤ limit → union bytes_cmp sat (tally l) (tally r) ≡ tally (l ++ r)
+tally_both l r low = tallied (union bytes_cmp sat (tally l) (tally r)) (l ++ r) (IsIncreasing-union nat_list_cmp_total sat (tally l) (tally r) (tally_rises l)) (counts_both (tally l) (tally r) l r low (tally_rises r) (tally_counts l) (tally_counts r))
+
+pub tally_fits : (terms : List (List ℕ)) → length terms ≤ limit → (t : List ℕ) (w : ℕ) → lookup bytes_cmp (tally terms) t ≡ Some w → w ≤ limit
+tally_fits terms low t w is =
+    let same : times terms t ≡ w = counted-value (times terms t) w (sym (tally_counts terms t) ∙ is) in
     let fits : times terms t ≤ length terms = count_by-le-length (λ s. is_eq (bytes_cmp s t)) terms in
     omega arith
+
+pub batch_built : (doc : ℕ) (W : List (List ℕ × ℕ)) → IsIncreasing bytes_cmp W → build bytes_cmp (batch doc W) ≡ batch doc W
+batch_built doc W s = build-increasing nat_list_cmp_total exact_bytes (batch doc W) (IsIncreasing-revalued (single doc) bytes_cmp W s)

@@ -2,3 +2,6 @@ pub mod Terms
 pub mod Queries
 pub mod Documents
 pub mod Ranks
+pub mod Faults
+pub mod Merging
+pub mod Added

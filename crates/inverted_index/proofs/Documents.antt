@@ -10,15 +10,9 @@ use Rattle.map_model.proofs.Lookups.{equal_lookups}
 use Rattle.map_model.proofs.NatKeys.{nat_exact}
 use Rattle.inverted_index.specs.Terms.{bytes_cmp}
 use Rattle.inverted_index.specs.Documents.{documents_of, terms_in}
+use Rattle.inverted_index.specs.Merging.{Lists, postings_at}
 use Rattle.inverted_index.specs.Queries.{Document, picked}
 use Rattle.inverted_index.proofs.Kept.{kept, lookup-kept, IsIncreasing-kept}
-
-abbrev pub Lists : Type 0
-Lists = List (List ℕ × List (ℕ × ℕ))
-
--- the postings of a term
-abbrev pub postings_at : Lists → List ℕ → List (ℕ × ℕ)
-postings_at P t = unwrap_or (lookup bytes_cmp P t) []
 
 pub IsIncreasing-terms_in : (P : Lists) (q : ℕ) → IsIncreasing bytes_cmp P → IsIncreasing bytes_cmp (terms_in P q)
 IsIncreasing-terms_in P q s = IsIncreasing-kept (λ e. lookup nat_cmp e.1 q) bytes_cmp P s

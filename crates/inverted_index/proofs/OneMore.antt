@@ -18,20 +18,10 @@ use Rattle.map_model.proofs.Unions.{united, lookup-union, IsIncreasing-union}
 use Rattle.map_model.proofs.NatKeys.{nat_exact}
 use Rattle.inverted_index.specs.Terms.{bytes_cmp}
 use Rattle.inverted_index.specs.Documents.{IsIndex, IsPostings, documents_of, terms_in}
-use Rattle.inverted_index.proofs.Kept.{revalued, IsIncreasing-revalued, lookup-revalued}
-use Rattle.inverted_index.proofs.Postings.{Lists, postings_at, lookup-terms_in, IsIncreasing-terms_in}
-
--- postings of one document
-abbrev pub single : ℕ → ℕ → List (ℕ × ℕ)
-single doc w = (doc, w) ∷ []
-
--- how the postings of two maps meet
-abbrev pub merged : List (ℕ × ℕ) → List (ℕ × ℕ) → List (ℕ × ℕ)
-merged a b = union nat_cmp (λ x y. x) a b
-
--- the postings of one document's terms
-abbrev pub batch : ℕ → List (List ℕ × ℕ) → Lists
-batch doc W = revalued (single doc) W
+use Rattle.inverted_index.specs.Queries.{is_known}
+use Rattle.inverted_index.specs.Merging.{Lists, batch, merged, postings_at, single}
+use Rattle.inverted_index.proofs.Kept.{IsIncreasing-revalued, lookup-revalued}
+use Rattle.inverted_index.proofs.Documents.{lookup-terms_in, IsIncreasing-terms_in}
 
 -- the postings of a term after the document, of those before and the document's weight, if there are any
 abbrev pub after_doc : ℕ → Option (List (ℕ × ℕ)) → Option ℕ → Option (List (ℕ × ℕ))
@@ -80,9 +70,9 @@ module _ (doc : ℕ) (D : List (ℕ × ℕ)) (P : Lists) (W : List (List ℕ × 
       elim (lookup bytes_cmp P t) as (λ o. lookup bytes_cmp P t ≡ o → lookup nat_cmp (unwrap_or o []) doc ≡ None) [
         | None ↦ λ _. refl
         | Some m ↦ λ is. elim (lookup nat_cmp m doc) as (λ r. lookup nat_cmp m doc ≡ r → r ≡ None) [
-            | None ↦ λ _. refl
-            | Some w ↦ λ has. let known : is_some (lookup nat_cmp D doc) ≡ true = (index.are_postings t m is).are_known doc w has in absurd (let no : false ≡ true = sym (ap is_some new) ∙ known in cc)
-          ] refl
+          | None ↦ λ _. refl
+          | Some w ↦ λ has. let known : is_some (lookup nat_cmp D doc) ≡ true = (index.are_postings t m is).are_known doc w has in absurd (let no : false ≡ true = sym (ap is_some new) ∙ known in cc)
+        ] refl
       ] refl
 
   found : (t : List ℕ) (q : ℕ) → lookup nat_cmp (postings_at lists_after t) q ≡ cond (is_eq (nat_cmp doc q)) (lookup bytes_cmp W t) (lookup nat_cmp (postings_at P t) q)
@@ -93,12 +83,12 @@ module _ (doc : ℕ) (D : List (ℕ × ℕ)) (P : Lists) (W : List (List ℕ × 
   -- the document's terms
   terms_here : terms_in lists_after doc ≡ W
   terms_here = equal_lookups nat_list_cmp_total exact_bytes (terms_in lists_after doc) W (IsIncreasing-terms_in lists_after doc rises_after) rises
-    (λ t. lookup-terms_in lists_after doc t rises_after ∙ found t doc ∙ ap (λ o. cond (is_eq o) (lookup bytes_cmp W t) (lookup nat_cmp (postings_at P t) doc)) (tied_itself nat_cmp_total doc))
+      (λ t. lookup-terms_in lists_after doc t rises_after ∙ found t doc ∙ ap (λ o. cond (is_eq o) (lookup bytes_cmp W t) (lookup nat_cmp (postings_at P t) doc)) (tied_itself nat_cmp_total doc))
 
   -- those of another document
   terms_there : (q : ℕ) → is_eq (nat_cmp doc q) ≡ false → terms_in lists_after q ≡ terms_in P q
   terms_there q other = equal_lookups nat_list_cmp_total exact_bytes (terms_in lists_after q) (terms_in P q) (IsIncreasing-terms_in lists_after q rises_after) (IsIncreasing-terms_in P q index.terms_rise)
-    (λ t. lookup-terms_in lists_after q t rises_after ∙ found t q ∙ ap (λ b. cond b (lookup bytes_cmp W t) (lookup nat_cmp (postings_at P t) q)) other ∙ sym (lookup-terms_in P q t index.terms_rise))
+      (λ t. lookup-terms_in lists_after q t rises_after ∙ found t q ∙ ap (λ b. cond b (lookup bytes_cmp W t) (lookup nat_cmp (postings_at P t) q)) other ∙ sym (lookup-terms_in P q t index.terms_rise))
 
   -- a part on one side of the document
   part_same : (side : Ordering → Bool) → side Equal ≡ false → (known : List (ℕ × ℕ)) → documents_of (filter (λ e. side (nat_cmp e.0 doc)) known) lists_after ≡ filter (λ d. side (nat_cmp d.0 doc)) (documents_of known P)
@@ -128,9 +118,9 @@ module _ (doc : ℕ) (D : List (ℕ × ℕ)) (P : Lists) (W : List (List ℕ × 
       elim (is_eq (nat_cmp doc q)) as (λ b. cond b (lookup bytes_cmp W t) (lookup nat_cmp (postings_at P t) q) ≡ Some w → (is_some (cond b (Some 0) (lookup nat_cmp D q)) ≡ true) × (w ≤ 2 ^ 64 - 1)) [
         | true ↦ λ is. (refl, fit t w is)
         | false ↦ elim (lookup bytes_cmp P t) as (λ o. lookup bytes_cmp P t ≡ o → lookup nat_cmp (unwrap_or o []) q ≡ Some w → (is_some (lookup nat_cmp D q) ≡ true) × (w ≤ 2 ^ 64 - 1)) [
-            | None ↦ λ _ is. absurd (none-some w is)
-            | Some m ↦ λ has is. ((index.are_postings t m has).are_known q w is, (index.are_postings t m has).fit q w is)
-          ] refl
+          | None ↦ λ _ is. absurd (none-some w is)
+          | Some m ↦ λ has is. ((index.are_postings t m has).are_known q w is, (index.are_postings t m has).fit q w is)
+        ] refl
       ]
 
   -- the postings of a term rise and are filled
@@ -141,9 +131,12 @@ module _ (doc : ℕ) (D : List (ℕ × ℕ)) (P : Lists) (W : List (List ℕ × 
   rises_filled (Some l) None m old is = let same : l ≡ m = same_Some l m is in
       subst (λ (x : List (ℕ × ℕ)). IsIncreasing nat_cmp x × (x ≡ [] → ⊥)) same ((old l refl).rises, (old l refl).filled)
   rises_filled (Some l) (Some w) m old is = let same : merged l (single doc w) ≡ m = same_Some (merged l (single doc w)) m is in
-      subst (λ (x : List (ℕ × ℕ)). IsIncreasing nat_cmp x × (x ≡ [] → ⊥)) same (IsIncreasing-union nat_cmp_total (λ x y. x) l (single doc w) (old l refl).rises, λ empty.
-      let v : ℕ = option_map_or (λ x. x) (lookup nat_cmp l doc) w in
-      none-some v (sym (ap (λ x. lookup nat_cmp x doc) empty) ∙ lookup-set nat_cmp_total nat_exact l doc v doc ∙ ap (λ o. cond (is_eq o) (Some v) (lookup nat_cmp l doc)) (tied_itself nat_cmp_total doc)))
+      subst (λ (x : List (ℕ × ℕ)). IsIncreasing nat_cmp x × (x ≡ [] → ⊥)) same (
+        IsIncreasing-union nat_cmp_total (λ x y. x) l (single doc w) (old l refl).rises,
+        λ empty.
+            let v : ℕ = option_map_or (λ x. x) (lookup nat_cmp l doc) w in
+            none-some v (sym (ap (λ x. lookup nat_cmp x doc) empty) ∙ lookup-set nat_cmp_total nat_exact l doc v doc ∙ ap (λ o. cond (is_eq o) (Some v) (lookup nat_cmp l doc)) (tied_itself nat_cmp_total doc)),
+      )
 
   pub index_after : IsIndex known_after lists_after
   index_after = record {
@@ -151,15 +144,21 @@ module _ (doc : ℕ) (D : List (ℕ × ℕ)) (P : Lists) (W : List (List ℕ × 
     zero_weights = λ q w is. zero q w (sym (lookup-set nat_cmp_total nat_exact D doc 0 q) ∙ is);
     terms_rise = rises_after;
     are_postings = λ t m is.
-      let shape : IsIncreasing nat_cmp m × (m ≡ [] → ⊥) = rises_filled (lookup bytes_cmp P t) (lookup bytes_cmp W t) m (λ l has. index.are_postings t l has) (sym (lookup-lists_after t) ∙ is) in
-      let inside : (q w : ℕ) → lookup nat_cmp m q ≡ Some w → (is_some (cond (is_eq (nat_cmp doc q)) (Some 0) (lookup nat_cmp D q)) ≡ true) × (w ≤ 2 ^ 64 - 1) = λ q w has. found_known t q w (sym (found t q) ∙ ap (λ o. lookup nat_cmp (unwrap_or o []) q) is ∙ has) in
-      record {
-        rises = shape.0;
-        filled = shape.1;
-        are_known = λ q w has. ap is_some (lookup-set nat_cmp_total nat_exact D doc 0 q) ∙ (inside q w has).0;
-        fit = λ q w has. (inside q w has).1;
-      };
+        let shape : IsIncreasing nat_cmp m × (m ≡ [] → ⊥) = rises_filled (lookup bytes_cmp P t) (lookup bytes_cmp W t) m (λ l has. index.are_postings t l has) (sym (lookup-lists_after t) ∙ is) in
+        let inside : (q w : ℕ) → lookup nat_cmp m q ≡ Some w → (is_some (cond (is_eq (nat_cmp doc q)) (Some 0) (lookup nat_cmp D q)) ≡ true) × (w ≤ 2 ^ 64 - 1) = λ q w has. found_known t q w (sym (found t q) ∙ ap (λ o. lookup nat_cmp (unwrap_or o []) q) is ∙ has) in
+        record {
+          rises = shape.0;
+          filled = shape.1;
+          are_known = λ q w has. ap is_some (lookup-set nat_cmp_total nat_exact D doc 0 q) ∙ (inside q w has).0;
+          fit = λ q w has. (inside q w has).1;
+        };
   }
     where
       zero : (q w : ℕ) → cond (is_eq (nat_cmp doc q)) (Some 0) (lookup nat_cmp D q) ≡ Some w → w ≡ 0
       zero q w = elim (is_eq (nat_cmp doc q)) as (λ b. cond b (Some 0) (lookup nat_cmp D q) ≡ Some w → w ≡ 0) [ true ↦ λ is. sym (same_Some 0 w is) | false ↦ index.zero_weights q w ]
+
+-- a document is known where it is among the known ones
+pub known-documents : (D : List (ℕ × ℕ)) (P : Lists) (doc : ℕ) → is_known (documents_of D P) doc ≡ is_some (lookup nat_cmp D doc)
+known-documents [] P doc = refl
+known-documents (e ∷ D) P doc =
+    elim (is_eq (nat_cmp e.0 doc)) as (λ b. is_some (cond b (Some (terms_in P e.0)) (lookup nat_cmp (documents_of D P) doc)) ≡ is_some (cond b (Some e.1) (lookup nat_cmp D doc))) [ true ↦ refl | false ↦ known-documents D P doc ]
