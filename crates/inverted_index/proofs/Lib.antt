@@ -5,3 +5,5 @@ pub mod Gathering
 pub mod Ranks
 pub mod Tallies
 pub mod Texts
+pub mod Found
+pub mod Steps

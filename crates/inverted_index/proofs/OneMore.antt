@@ -1,5 +1,5 @@
 -- A document that is added.
-use Rattle.std.proofs.Common.{◌≡◌, ℕ, ◌-◌, ◌^◌, ◌≤◌, Bool, true, false, cond, List, [], ◌∷◌, ◌++◌, Option, Some, None, refl, sym, ap, ap₂, ◌∙◌, map, arith, subst}
+use Rattle.std.proofs.Common.{◌≡◌, ℕ, ◌-◌, ◌^◌, ◌≤◌, Bool, true, false, cond, List, [], ◌∷◌, ◌++◌, Option, Some, None, length, refl, sym, ap, ap₂, ◌∙◌, map, arith, subst}
 use Rattle.std.specs.declared.cmp.Ordering.{Ordering}
 use Rattle.std.specs.declared.cmp.Ordering.TheVariants.{Less, Equal, Greater}
 use Rattle.std.specs.List.{filter}
@@ -16,9 +16,9 @@ use Rattle.map_model.proofs.Lookups.{equal_lookups, lookup-set}
 use Rattle.map_model.proofs.Splits.{IsIncreasing-set}
 use Rattle.map_model.proofs.Unions.{united, lookup-union, IsIncreasing-union}
 use Rattle.map_model.proofs.NatKeys.{nat_exact}
-use Rattle.inverted_index.specs.Terms.{bytes_cmp}
-use Rattle.inverted_index.specs.Documents.{IsIndex, IsPostings, documents_of, terms_in}
-use Rattle.inverted_index.specs.Queries.{is_known}
+use Rattle.inverted_index.specs.Terms.{bytes_cmp, weights_of}
+use Rattle.inverted_index.specs.Documents.{AreFit, IsIndex, IsPostings, documents_of, terms_in}
+use Rattle.inverted_index.specs.Queries.{Document, is_known}
 use Rattle.inverted_index.specs.Merging.{Lists, batch, merged, postings_at, single}
 use Rattle.inverted_index.proofs.Kept.{IsIncreasing-revalued, lookup-revalued}
 use Rattle.inverted_index.proofs.Documents.{lookup-terms_in, IsIncreasing-terms_in}
@@ -162,3 +162,19 @@ pub known-documents : (D : List (ℕ × ℕ)) (P : Lists) (doc : ℕ) → is_kno
 known-documents [] P doc = refl
 known-documents (e ∷ D) P doc =
     elim (is_eq (nat_cmp e.0 doc)) as (λ b. is_some (cond b (Some (terms_in P e.0)) (lookup nat_cmp (documents_of D P) doc)) ≡ is_some (cond b (Some e.1) (lookup nat_cmp D doc))) [ true ↦ refl | false ↦ known-documents D P doc ]
+
+-- the maps after a document is added
+pub one_more : (doc : ℕ) (D : List (ℕ × ℕ)) (P : Lists) (W : List (List ℕ × ℕ)) (known : List (ℕ × ℕ)) (lists : Lists) → IsIndex D P → lookup nat_cmp D doc ≡ None → IsIncreasing bytes_cmp W → AreFit W → known ≡ set nat_cmp D doc 0 → lists ≡ union bytes_cmp merged P (batch doc W) → IsIndex known lists × (documents_of known lists ≡ set nat_cmp (documents_of D P) doc W)
+one_more doc D P W known lists index new rises fit knows has = rw (knows, has) (index_after doc D P W index new rises fit, documents_after doc D P W index new rises fit)
+
+-- what adding a document answers
+pub added : (doc : ℕ) (text : List ℕ) (D : List (ℕ × ℕ)) (P : Lists) (ds : List Document) (W : List (List ℕ × ℕ)) (B : Lists) (known : List (ℕ × ℕ)) (lists : Lists) (terms : ℕ) → IsIndex D P → documents_of D P ≡ ds → lookup nat_cmp D doc ≡ None → known ≡ set nat_cmp D doc 0 → W ≡ weights_of text → IsIncreasing bytes_cmp W → AreFit W → B ≡ batch doc W → lists ≡ union bytes_cmp merged P B → terms ≡ length W
+    → IsIndex known lists × ((is_known ds doc ≡ false) × (documents_of known lists ≡ set nat_cmp ds doc (weights_of text)) × (terms ≡ length (weights_of text)))
+added doc text D P ds W B known lists terms index view new knows weighs rises fit batched has counted =
+    let all = one_more doc D P W known lists index new rises fit knows (has ∙ ap (union bytes_cmp merged P) batched) in
+    let unknown : is_known ds doc ≡ false = ap (λ d. is_known d doc) (sym view) ∙ known-documents D P doc ∙ ap is_some new in
+    let documents : documents_of known lists ≡ set nat_cmp ds doc (weights_of text) = all.1 ∙ ap₂ (λ d w. set nat_cmp d doc w) view weighs in
+    (all.0, (unknown, documents, counted ∙ ap length weighs))
+
+pub was_known : (doc : ℕ) (D : List (ℕ × ℕ)) (P : Lists) (ds : List Document) → documents_of D P ≡ ds → is_some (lookup nat_cmp D doc) ≡ true → is_known ds doc ≡ true
+was_known doc D P ds view known = ap (λ d. is_known d doc) (sym view) ∙ known-documents D P doc ∙ known

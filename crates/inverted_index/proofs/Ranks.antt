@@ -1,9 +1,12 @@
 -- The heaviest of some documents, and what is left behind it.
-use Rattle.std.proofs.Common.{◌≡◌, ℕ, zero, suc, ◌+◌, ◌-◌, ◌^◌, ◌<◌, ◌≤◌, Bool, true, false, cond, min, max, ◌&&◌, ◌||◌, List, [], ◌∷◌, ◌++◌, Option, Some, None, take, refl, sym, ap, ap₂, ◌∙◌, map, append_assoc, arith}
+use Rattle.std.proofs.Common.{◌≡◌, ℕ, zero, suc, ◌+◌, ◌-◌, ◌^◌, ◌<◌, ◌≤◌, Bool, true, false, cond, min, max, ◌&&◌, ◌||◌, List, [], ◌∷◌, ◌++◌, Option, Some, None, take, refl, sym, ap, ap₂, ◌∙◌, map, append_assoc, append-nil, subst, Result, arith}
 use Rattle.std.specs.declared.cmp.Ordering.{Ordering}
 use Rattle.std.specs.declared.cmp.Ordering.TheVariants.{Less, Equal, Greater}
-use Rattle.std.specs.List.{AllByRecursion}
-use Rattle.std.specs.Ordering.{nat_cmp, is_eq}
+use Rattle.std.specs.List.{AllByRecursion, filter}
+use Rattle.std.specs.Option.{MatchOption}
+use Rattle.std.specs.Result.{IfOk}
+use Rattle.std.specs.Ordering.{nat_cmp, is_eq, is_ne}
+use Rattle.std.proofs.lemmas.Result.{IfOk-weaker}
 use Rattle.std.proofs.lemmas.Cmp.{nat_cmp_total, tied_itself}
 use Rattle.std.proofs.lemmas.Bool.Decides.{nat_tests}
 use Rattle.map_model.specs.Entries.{AllAbove, AllKeys, IsIncreasing, drop_key, lookup}
@@ -14,7 +17,8 @@ use Rattle.map_model.proofs.Around.{drop_key-around_equal}
 use Rattle.map_model.proofs.Keys.{around}
 use Rattle.map_model.proofs.Lookups.{first_found, lookup-behind}
 use Rattle.map_model.proofs.NatKeys.{lt_from_less, nat_exact}
-use Rattle.inverted_index.specs.Queries.{ranked, ranked_in, ranks_before}
+use Rattle.inverted_index.specs.Queries.{hits_of, ranked, ranked_in, ranks_before}
+use Rattle.inverted_index.specs.declared.hit.Hit.{Hit}
 use Rattle.inverted_index.specs.Ranks.{IsFirst, AreBelow, AreLow}
 
 -- ---- what holds of each element
@@ -138,3 +142,44 @@ low_fits (e ∷ m) s h = (h e.0 e.1 (first_found nat_cmp_total e m), low_fits m 
           | Equal ↦ λ ties. absurd (let bad : ◌≡◌ {A = Option ℕ} None (Some w) = sym (lookup-behind nat_cmp_total e m q s ties) ∙ is in cc)
           | Greater ↦ λ _. is
         ] refl
+
+-- the sides of an entry
+pub low_left : (es l r : List (ℕ × ℕ)) (k v : ℕ) → es ≡ l ++ (k, v) ∷ r → AreLow es → AreLow l
+low_left es l r k v is low = let Low : List (ℕ × ℕ) → Type 0 = λ m. AreLow m in all-front (λ e. e.1 ≤ 2 ^ 64 - 1) l ((k, v) ∷ r) (subst Low is low)
+
+pub low_right : (es l r : List (ℕ × ℕ)) (k v : ℕ) → es ≡ l ++ (k, v) ∷ r → AreLow es → AreLow r
+low_right es l r k v is low = let Low : List (ℕ × ℕ) → Type 0 = λ m. AreLow m in (all-back (λ e. e.1 ≤ 2 ^ 64 - 1) l ((k, v) ∷ r) (subst Low is low)).1
+
+-- what the right side answers where the left and the middle are below
+pub right_answers : {E : Type 0} (answer : Result (Option ℕ) E) (es l r : List (ℕ × ℕ)) (g k v : ℕ) → es ≡ l ++ (k, v) ∷ r → AreBelow g l → v < g → IfOk answer (λ doc. MatchOption doc (AreBelow g r) (IsFirst r g)) → IfOk answer (λ doc. MatchOption doc (AreBelow g es) (IsFirst es g))
+right_answers answer es l r g k v is less light h = IfOk-weaker answer (λ doc. MatchOption doc (AreBelow g r) (IsFirst r g)) (λ doc. MatchOption doc (AreBelow g es) (IsFirst es g)) (whole) h
+  where
+    whole : (doc : Option ℕ) → MatchOption doc (AreBelow g r) (IsFirst r g) → MatchOption doc (AreBelow g es) (IsFirst es g)
+    whole None below = let Below : List (ℕ × ℕ) → Type 0 = λ m. AreBelow g m in subst Below (sym is) (all-join (λ e. e.1 < g) l ((k, v) ∷ r) less (light, below))
+    whole (Some d) first = first_back es l r g d k v is less light first
+
+pub heaviest_leads : (es : List (ℕ × ℕ)) (g d : ℕ) → IsIncreasing nat_cmp es → AreLow es → g ≡ (totals_fold es).greatest → IsFirst es g d → ranked es ≡ (d, g) ∷ ranked (drop_key nat_cmp es d)
+heaviest_leads es g d rises low is first = leads es g d rises (greatest_above es g low (omega (arith, is))) first
+
+pub low_dropped : (m es : List (ℕ × ℕ)) (d : ℕ) → m ≡ drop_key nat_cmp es d → AreLow es → AreLow m
+low_dropped m es d is low = let Low : List (ℕ × ℕ) → Type 0 = λ x. AreLow x in subst Low (sym is) (all-filter (λ e. e.1 ≤ 2 ^ 64 - 1) (λ e. is_ne (nat_cmp e.0 d)) es low)
+  where
+    all-filter : (F : ℕ × ℕ → Type 0) (p : ℕ × ℕ → Bool) (xs : List (ℕ × ℕ)) → AllByRecursion F xs → AllByRecursion F (filter p xs)
+    all-filter F p [] a = tt
+    all-filter F p (x ∷ xs) a = elim (p x) as (λ b. AllByRecursion F (cond b (x ∷ filter p xs) (filter p xs))) [ true ↦ (a.0, all-filter F p xs a.1) | false ↦ all-filter F p xs a.1 ]
+
+-- one hit more
+pub top_more : (all hits more : List Hit) (k i : ℕ) (es rest : List (ℕ × ℕ)) (hit : Hit) → i < k → all ≡ hits ++ hits_of (take (k - i) (ranked es)) → ranked es ≡ (hit.doc, hit.weight) ∷ ranked (drop_key nat_cmp es hit.doc) → rest ≡ drop_key nat_cmp es hit.doc → more ≡ hits ++ hit ∷ [] → all ≡ more ++ hits_of (take (k - (i + 1)) (ranked rest))
+top_more all hits more k i es rest hit low so_far leading dropped pushed =
+    so_far
+    ∙ ap (λ x. hits ++ hits_of x) (ap (take (k - i)) leading ∙ take_leading k i (hit.doc, hit.weight) (ranked (drop_key nat_cmp es hit.doc)))
+    ∙ sym (append_assoc hits (hit ∷ []) (hits_of (take (k - (i + 1)) (ranked (drop_key nat_cmp es hit.doc)))))
+    ∙ ap₂ (λ x y. x ++ hits_of (take (k - (i + 1)) (ranked y))) (sym pushed) (sym dropped)
+
+-- none are left
+pub top_done : (all hits : List Hit) (k i : ℕ) (es : List (ℕ × ℕ)) → all ≡ hits ++ hits_of (take (k - i) (ranked es)) → es ≡ [] → hits ≡ all
+top_done all hits k i es so_far none = sym (so_far ∙ ap (λ x. hits ++ hits_of (take (k - i) (ranked x))) none ∙ ap (λ x. hits ++ hits_of x) (take-nil (k - i)) ∙ append-nil hits)
+  where
+    take-nil : (n : ℕ) → ◌≡◌ {A = List (ℕ × ℕ)} (take n []) []
+    take-nil zero = refl
+    take-nil (suc n) = refl

@@ -1,6 +1,10 @@
 -- The first of some documents whose weight is great enough.
-use Rattle.std.specs.Prelude.{◌≡◌, ℕ, ◌-◌, ◌^◌, ◌<◌, ◌≤◌, List, ◌∷◌, ◌++◌}
+use Rattle.std.specs.Prelude.{◌≡◌, ℕ, ◌-◌, ◌^◌, ◌<◌, ◌≤◌, List, [], ◌∷◌, ◌++◌, Option, Some, None}
 use Rattle.std.specs.List.{AllByRecursion}
+use Rattle.std.specs.Ordering.{nat_cmp}
+use Rattle.map_model.specs.Entries.{drop_key}
+use Rattle.inverted_index.specs.Queries.{ranked}
+use Rattle.inverted_index.specs.declared.hit.Hit.{Hit}
 
 -- each weight is less than a weight
 abbrev pub AreBelow : ℕ → List (ℕ × ℕ) → Type 0
@@ -18,3 +22,8 @@ pub record IsFirst (m : List (ℕ × ℕ)) (least doc : ℕ) : Type 0 where
   pub split : m ≡ front ++ (doc, weight) ∷ back
   pub less : AreBelow least front
   pub heavy : least ≤ weight
+
+-- there is no document; or the first by rank, and then the others
+abbrev pub Leads : List (ℕ × ℕ) → Option Hit → Type 0
+Leads m None = m ≡ []
+Leads m (Some hit) = ranked m ≡ (hit.doc, hit.weight) ∷ ranked (drop_key nat_cmp m hit.doc)

@@ -6,8 +6,7 @@ ghost use Rattle.inverted_index.specs.Added.{IsAdded, WithDoc};
 
 use crate::index::Index;
 use crate::postings::{Merge, Weights};
-use crate::tally::{batch, tally};
-use crate::text::terms_of;
+use crate::tally::{batch, weights_of};
 use aug_monoid::{NoMemory, Steps};
 use fork_join::{Cut, Gate};
 use std::alloc::Global;
@@ -58,8 +57,7 @@ impl Index {
         let Some(known) = with_doc::<Brand>(alloc, &self.known, doc, Blank::new(1))? else {
             return Ok(Added::Known);
         };
-        let terms = terms_of(alloc, text)?;
-        let weights = tally(rt, alloc, gate, cut, &terms)?.to_vec(alloc)?;
+        let weights = weights_of(rt, alloc, gate, cut, text)?;
         let batch = batch(rt, alloc, gate, cut, doc, &weights)?;
         let lists = self.lists.union(rt, alloc, gate, cut, &batch, &Merge)?;
         Ok(Added::New {

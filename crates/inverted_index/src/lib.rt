@@ -2,9 +2,12 @@
 #![tactic(auto)]
 
 mod adding;
+mod finding;
 mod hit;
 mod index;
 mod postings;
+mod queries;
+mod ranking;
 mod tally;
 mod term;
 mod text;
