@@ -16,6 +16,8 @@ use Rattle.map_model.proofs.Lookups.{equal_lookups, lookup-set}
 use Rattle.map_model.proofs.Splits.{IsIncreasing-set}
 use Rattle.map_model.proofs.Unions.{united, lookup-union, IsIncreasing-union}
 use Rattle.map_model.proofs.NatKeys.{nat_exact}
+use Rattle.map_model.specs.Contents.{Contents}
+use Rattle.inverted_index.specs.Added.{WithDoc}
 use Rattle.inverted_index.specs.Terms.{bytes_cmp, weights_of}
 use Rattle.inverted_index.specs.Documents.{AreFit, IsIndex, IsPostings, documents_of, terms_in}
 use Rattle.inverted_index.specs.Queries.{Document, is_known}
@@ -178,3 +180,9 @@ added doc text D P ds W B known lists terms index view new knows weighs rises fi
 
 pub was_known : (doc : ℕ) (D : List (ℕ × ℕ)) (P : Lists) (ds : List Document) → documents_of D P ≡ ds → is_some (lookup nat_cmp D doc) ≡ true → is_known ds doc ≡ true
 was_known doc D P ds view known = ap (λ d. is_known d doc) (sym view) ∙ known-documents D P doc ∙ known
+
+pub with_none : (D : List (ℕ × ℕ)) (doc : ℕ) (o : Option (Contents ℕ ℕ)) → WithDoc D doc o → o ≡ None → is_some (lookup nat_cmp D doc) ≡ true
+with_none D doc o h is = let Is : Option (Contents ℕ ℕ) → Type 0 = λ x. WithDoc D doc x in subst Is is h
+
+pub with_some : (D : List (ℕ × ℕ)) (doc : ℕ) (o : Option (Contents ℕ ℕ)) (known : Contents ℕ ℕ) → WithDoc D doc o → o ≡ Some known → (lookup nat_cmp D doc ≡ None) × (known.entries ≡ set nat_cmp D doc 0)
+with_some D doc o known h is = let Is : Option (Contents ℕ ℕ) → Type 0 = λ x. WithDoc D doc x in subst Is is h

@@ -1,9 +1,10 @@
 -- The heaviest of some documents, and what is left behind it.
-use Rattle.std.proofs.Common.{◌≡◌, ℕ, zero, suc, ◌+◌, ◌-◌, ◌^◌, ◌<◌, ◌≤◌, Bool, true, false, cond, min, max, ◌&&◌, ◌||◌, List, [], ◌∷◌, ◌++◌, Option, Some, None, take, refl, sym, ap, ap₂, ◌∙◌, map, append_assoc, append-nil, subst, Result, arith}
+use Rattle.std.proofs.Common.{◌≡◌, ℕ, zero, suc, ◌+◌, ◌-◌, ◌^◌, ◌<◌, ◌≤◌, Bool, true, false, cond, min, max, ◌&&◌, ◌||◌, List, [], ◌∷◌, ◌++◌, Option, Some, None, take, length, refl, sym, ap, ap₂, ◌∙◌, map, append_assoc, append-nil, subst, Result, arith}
 use Rattle.std.specs.declared.cmp.Ordering.{Ordering}
 use Rattle.std.specs.declared.cmp.Ordering.TheVariants.{Less, Equal, Greater}
 use Rattle.std.specs.List.{AllByRecursion, filter}
-use Rattle.std.specs.Option.{MatchOption}
+use Rattle.std.specs.Option.{IsNone, MatchOption}
+use Rattle.std.specs.Prelude.{◌↔◌}
 use Rattle.std.specs.Result.{IfOk}
 use Rattle.std.specs.Ordering.{nat_cmp, is_eq, is_ne}
 use Rattle.std.proofs.lemmas.Result.{IfOk-weaker}
@@ -14,6 +15,7 @@ use Rattle.map_model.specs.Fold.{fold_of}
 use Rattle.aug_monoid.specs.Totals.{totals_base, totals_combine, totals_unit}
 use Rattle.aug_monoid.specs.declared.totals.Totals.{Totals}
 use Rattle.map_model.proofs.Around.{drop_key-around_equal}
+use Rattle.map_model.proofs.Cuts.{length-around}
 use Rattle.map_model.proofs.Keys.{around}
 use Rattle.map_model.proofs.Lookups.{first_found, lookup-behind}
 use Rattle.map_model.proofs.NatKeys.{lt_from_less, nat_exact}
@@ -172,7 +174,7 @@ low_dropped m es d is low = let Low : List (ℕ × ℕ) → Type 0 = λ x. AreLo
 pub top_more : (all hits more : List Hit) (k i : ℕ) (es rest : List (ℕ × ℕ)) (hit : Hit) → i < k → all ≡ hits ++ hits_of (take (k - i) (ranked es)) → ranked es ≡ (hit.doc, hit.weight) ∷ ranked (drop_key nat_cmp es hit.doc) → rest ≡ drop_key nat_cmp es hit.doc → more ≡ hits ++ hit ∷ [] → all ≡ more ++ hits_of (take (k - (i + 1)) (ranked rest))
 top_more all hits more k i es rest hit low so_far leading dropped pushed =
     so_far
-    ∙ ap (λ x. hits ++ hits_of x) (ap (take (k - i)) leading ∙ take_leading k i (hit.doc, hit.weight) (ranked (drop_key nat_cmp es hit.doc)))
+    ∙ ap (λ x. hits ++ hits_of x) (ap (take (k - i)) leading ∙ take_leading k i (hit.doc, hit.weight) (ranked (drop_key nat_cmp es hit.doc)) low)
     ∙ sym (append_assoc hits (hit ∷ []) (hits_of (take (k - (i + 1)) (ranked (drop_key nat_cmp es hit.doc)))))
     ∙ ap₂ (λ x y. x ++ hits_of (take (k - (i + 1)) (ranked y))) (sym pushed) (sym dropped)
 
@@ -183,3 +185,20 @@ top_done all hits k i es so_far none = sym (so_far ∙ ap (λ x. hits ++ hits_of
     take-nil : (n : ℕ) → ◌≡◌ {A = List (ℕ × ℕ)} (take n []) []
     take-nil zero = refl
     take-nil (suc n) = refl
+
+-- all are there
+pub top_end : (all hits : List Hit) (k i : ℕ) (es : List (ℕ × ℕ)) → all ≡ hits ++ hits_of (take (k - i) (ranked es)) → k ≤ i → hits ≡ all
+top_end all hits k i es so_far enough =
+    let none : k - i ≡ 0 = omega arith in
+    sym (so_far ∙ ap (λ n. hits ++ hits_of (take n (ranked es))) none ∙ append-nil hits)
+
+pub left_shorter : (es l r : List (ℕ × ℕ)) (k v : ℕ) → es ≡ l ++ (k, v) ∷ r → length l < length es
+left_shorter es l r k v is = let e : length es ≡ length l + length r + 1 = ap length is ∙ length-around l (k, v) r in omega arith
+
+pub right_shorter : (es l r : List (ℕ × ℕ)) (k v : ℕ) → es ≡ l ++ (k, v) ∷ r → length r < length es
+right_shorter es l r k v is = let e : length es ≡ length l + length r + 1 = ap length is ∙ length-around l (k, v) r in omega arith
+
+-- some document has the greatest weight
+pub no_greatest : (totals : Totals) (m : List (ℕ × ℕ)) → (IsNone (Some totals) ↔ (m ≡ [])) → totals ≡ totals_fold m → AreBelow totals.greatest m → ⊥
+no_greatest totals [] none is less = let bad : true ≡ false = none.1 refl in cc
+no_greatest totals (e ∷ m) none is less = some_greatest (e ∷ m) (λ empty. cc) (let Below : Totals → Type 0 = λ t. AreBelow t.greatest (e ∷ m) in subst Below is less)
