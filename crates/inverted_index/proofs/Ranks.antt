@@ -21,7 +21,7 @@ use Rattle.map_model.proofs.Lookups.{first_found, lookup-behind}
 use Rattle.map_model.proofs.NatKeys.{lt_from_less, nat_exact}
 use Rattle.inverted_index.specs.Queries.{hits_of, ranked, ranked_in, ranks_before}
 use Rattle.inverted_index.specs.declared.hit.Hit.{Hit}
-use Rattle.inverted_index.specs.Ranks.{IsFirst, AreBelow, AreLow}
+use Rattle.inverted_index.specs.Ranks.{AreBelow, AreLow, IsFirst, Leads}
 
 -- ---- what holds of each element
 
@@ -202,3 +202,6 @@ right_shorter es l r k v is = let e : length es ≡ length l + length r + 1 = ap
 pub no_greatest : (totals : Totals) (m : List (ℕ × ℕ)) → (IsNone (Some totals) ↔ (m ≡ [])) → totals ≡ totals_fold m → AreBelow totals.greatest m → ⊥
 no_greatest totals [] none is less = let bad : true ≡ false = none.1 refl in cc
 no_greatest totals (e ∷ m) none is less = some_greatest (e ∷ m) (λ empty. cc) (let Below : Totals → Type 0 = λ t. AreBelow t.greatest (e ∷ m) in subst Below is less)
+
+pub leads_some : (m : List (ℕ × ℕ)) (o : Option Hit) (hit : Hit) → Leads m o → o ≡ Some hit → ranked m ≡ (hit.doc, hit.weight) ∷ ranked (drop_key nat_cmp m hit.doc)
+leads_some m o hit h is = let Is : Option Hit → Type 0 = λ x. Leads m x in subst Is is h
