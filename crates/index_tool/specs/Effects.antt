@@ -7,27 +7,37 @@ use Rattle.script.specs.Lines.{line_of}
 use Rattle.script.specs.declared.index.IndexCommand.{IndexCommand}
 use Rattle.script.specs.declared.index.IndexCommand.TheVariants as command
 use Rattle.inverted_index.specs.Terms.{small, weights_of}
-use Rattle.inverted_index.specs.Queries.{Document, is_known, all_of, any_of, without, top}
+use Rattle.inverted_index.specs.Queries.{Document, is_known, all_of, any_of, without, top, hits_of}
+use Rattle.inverted_index.specs.declared.hit.Hit.{Hit}
 
 -- how many documents there are, and then the number and the weight of each
+abbrev pub docs_numbers : List Hit → List ℕ
+docs_numbers hits = length hits ∷ flat_map (λ h. h.doc ∷ h.weight ∷ []) hits
+
 abbrev pub docs_line : List (ℕ × ℕ) → List ℕ
-docs_line answers = line_of (codes "docs") (length answers ∷ flat_map (λ a. a.0 ∷ a.1 ∷ []) answers)
+docs_line answers = line_of (codes "docs") (docs_numbers (hits_of answers))
 
 -- a term as it is named, made small
 abbrev pub named : List (List ℕ) → ℕ → List ℕ
 named terms at = small (slice_index_or terms at [])
 
+-- the documents after one with a text is added, and the reply
+abbrev pub doc_after : List Document → ℕ → List ℕ → List Document
+doc_after ds i text = if is_known ds i then ds else set nat_cmp ds i (weights_of text)
+
+abbrev pub doc_reply : List Document → ℕ → List ℕ → List ℕ
+doc_reply ds i text = if is_known ds i then line_of (codes "known") [] else line_of (codes "ok") (length (weights_of text) ∷ [])
+
 -- the documents after a command
 abbrev pub index_after : List Document → IndexCommand → List Document
-index_after ds (command.Doc place i text) = if is_known ds i then ds else set nat_cmp ds i (weights_of text)
+index_after ds (command.Doc place i text) = doc_after ds i text
 index_after ds (command.And place terms) = ds
 index_after ds (command.Or place terms) = ds
 index_after ds (command.Without place terms) = ds
 index_after ds (command.Top place i term) = ds
 
 abbrev pub index_reply : List Document → IndexCommand → List ℕ
-index_reply ds (command.Doc place i text) =
-    if is_known ds i then line_of (codes "known") [] else line_of (codes "ok") (length (weights_of text) ∷ [])
+index_reply ds (command.Doc place i text) = doc_reply ds i text
 index_reply ds (command.And place terms) = docs_line (all_of ds (map small terms))
 index_reply ds (command.Or place terms) = docs_line (any_of ds (map small terms))
 index_reply ds (command.Without place terms) = docs_line (without ds (named terms 0) (named terms 1))

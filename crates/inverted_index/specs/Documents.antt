@@ -14,6 +14,10 @@ terms_in postings doc = filter_map (λ e. option_map (λ w. (e.0, w)) (lookup na
 abbrev pub documents_of : List (ℕ × ℕ) → List (List ℕ × List (ℕ × ℕ)) → List (ℕ × List (List ℕ × ℕ))
 documents_of known postings = map (λ e. (e.0, terms_in postings e.0)) known
 
+-- weights of 64 bits
+abbrev pub AreFit : List (List ℕ × ℕ) → Type 0
+AreFit weights = (t : List ℕ) (w : ℕ) → lookup bytes_cmp weights t ≡ Some w → w ≤ 2 ^ 64 - 1
+
 -- at least one document, all of them known, with weights of 64 bits
 pub record IsPostings (known m : List (ℕ × ℕ)) : Type 0 where
   pub rises : IsIncreasing nat_cmp m

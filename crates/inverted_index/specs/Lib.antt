@@ -1,3 +1,7 @@
 pub mod Terms
 pub mod Queries
 pub mod Documents
+pub mod Ranks
+pub mod Faults
+pub mod Merging
+pub mod Added

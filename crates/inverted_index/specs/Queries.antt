@@ -61,13 +61,14 @@ ranked (a ∷ as_) = ranked_in a (ranked as_)
 abbrev pub top : List Document → ℕ → List ℕ → List (ℕ × ℕ)
 top ds k term = take k (ranked (having ds term))
 
+-- a list that has some elements
+abbrev pub if_filled : {E : Type 0} → List E → Option (List E)
+if_filled [] = None
+if_filled (e ∷ es) = Some (e ∷ es)
+
 -- the documents that have a term with its weights, if there are any
 abbrev pub inverted : List Document → List ℕ → Option (List (ℕ × ℕ))
-inverted ds term = some_filled (having ds term)
-  where
-    some_filled : List (ℕ × ℕ) → Option (List (ℕ × ℕ))
-    some_filled [] = None
-    some_filled (a ∷ as_) = Some (a ∷ as_)
+inverted ds term = if_filled (having ds term)
 
 abbrev pub hit_of : ℕ × ℕ → Hit
 hit_of a = record { doc = a.0; weight = a.1 }

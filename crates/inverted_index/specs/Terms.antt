@@ -25,8 +25,7 @@ abbrev pub separates : ℕ → Bool
 separates b = not (is_ascii_alphanumeric b)
 
 abbrev pub is_filled : List ℕ → Bool
-is_filled [] = false
-is_filled (b ∷ bs) = true
+is_filled run = not (length run == 0)
 
 -- the longest runs of letters and digits, made small, in order
 abbrev pub terms_of : List ℕ → List (List ℕ)

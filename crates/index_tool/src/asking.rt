@@ -1,0 +1,102 @@
+//! What queries answer.
+ghost use Rattle.std.specs.Prelude.{◌≡◌, ◌++◌, ◌≤◌, IfOk, OnOk, codes, length, map};
+ghost use Rattle.std.specs.List.{AllByRecursion};
+ghost use Rattle.index_tool.specs.Effects.{docs_numbers, named};
+ghost use Rattle.inverted_index.specs.Queries.{all_of, any_of, hits_of, top, without};
+ghost use Rattle.inverted_index.specs.Terms.{small};
+ghost use Rattle.script.specs.Index.{IsTerm};
+ghost use Rattle.script.specs.Lines.{line_of};
+
+use crate::terms::{term_of, terms_of};
+use aug_monoid::NoMemory;
+use fork_join::{Cut, Gate};
+use inverted_index::{Hit, Index};
+use script::{Items, line};
+use std::alloc::Global;
+use std::marker::Sync;
+use std::thread::Threads;
+
+#[tactic(auto, using(crate::proofs::Numbered::numbers_more))]
+fn docs_numbers(alloc: Global, hits: &[Hit]) -> Result<Vec<u64>, NoMemory>
+    ensures { IfOk result (λ numbers. numbers.items ≡ docs_numbers hits.now) }
+{
+    let mut numbers = Vec::with_capacity(alloc, hits.len().saturating_mul(2).saturating_add(1))?;
+    numbers.push(hits.len() as u64)?;
+    for hit in hits {
+        numbers.push(hit.doc)?;
+        numbers.push(hit.weight)?;
+    }
+    Ok(numbers)
+}
+
+/// Appends a line for documents that were found.
+pub(crate) fn docs_line(
+    alloc: Global,
+    text: &mut Vec<u8>,
+    hits: &[Hit],
+) -> Result<(), NoMemory>
+    ensures { OnOk result (text.new.items ≡ text.old.items ++ line_of (codes "docs") (docs_numbers hits.now)) }
+{
+    let numbers = docs_numbers(alloc, hits)?;
+    line(text, "docs", &numbers)?;
+    Ok(())
+}
+
+pub(crate) fn all_of<R: Threads + Sync, G: Gate>(
+    rt: &R,
+    alloc: Global,
+    gate: &G,
+    cut: Cut,
+    index: &Index,
+    named: &[Items<u8>],
+) -> Result<Vec<Hit>, NoMemory>
+    requires { AllByRecursion IsTerm named.now }
+    ensures { IfOk result (λ hits. hits.items ≡ hits_of (all_of index.now (map small named.now))) }
+{
+    let terms = terms_of(alloc, named)?;
+    index.all_of(rt, alloc, gate, cut, &terms)
+}
+
+pub(crate) fn any_of<R: Threads + Sync, G: Gate>(
+    rt: &R,
+    alloc: Global,
+    gate: &G,
+    cut: Cut,
+    index: &Index,
+    named: &[Items<u8>],
+) -> Result<Vec<Hit>, NoMemory>
+    requires { AllByRecursion IsTerm named.now }
+    ensures { IfOk result (λ hits. hits.items ≡ hits_of (any_of index.now (map small named.now))) }
+{
+    let terms = terms_of(alloc, named)?;
+    index.any_of(rt, alloc, gate, cut, &terms)
+}
+
+pub(crate) fn without<R: Threads + Sync, G: Gate>(
+    rt: &R,
+    alloc: Global,
+    gate: &G,
+    cut: Cut,
+    index: &Index,
+    terms: &[Items<u8>],
+) -> Result<Vec<Hit>, NoMemory>
+    requires two { length terms.now ≡ 2 }
+    requires lawful { AllByRecursion IsTerm terms.now }
+    ensures { IfOk result (λ hits. hits.items ≡ hits_of (without index.now (named terms.now 0) (named terms.now 1))) }
+{
+    let terms = terms_of(alloc, terms)?;
+    index.without(rt, alloc, gate, cut, &terms[0], &terms[1])
+}
+
+pub(crate) fn top(
+    alloc: Global,
+    index: &Index,
+    k: u64,
+    named: &[u8],
+) -> Result<Vec<Hit>, NoMemory>
+    requires { IsTerm named.now }
+    ensures { IfOk result (λ hits. hits.items ≡ hits_of (top index.now k (small named.now))) }
+{
+    let term = term_of(alloc, named)?;
+    index.top(alloc, k, &term)
+}

@@ -1,0 +1,207 @@
+-- The heaviest of some documents, and what is left behind it.
+use Rattle.std.proofs.Common.{◌≡◌, ℕ, zero, suc, ◌+◌, ◌-◌, ◌^◌, ◌<◌, ◌≤◌, Bool, true, false, cond, min, max, ◌&&◌, ◌||◌, List, [], ◌∷◌, ◌++◌, Option, Some, None, take, length, refl, sym, ap, ap₂, ◌∙◌, map, append_assoc, append-nil, subst, Result, arith}
+use Rattle.std.specs.declared.cmp.Ordering.{Ordering}
+use Rattle.std.specs.declared.cmp.Ordering.TheVariants.{Less, Equal, Greater}
+use Rattle.std.specs.List.{AllByRecursion, filter}
+use Rattle.std.specs.Option.{IsNone, MatchOption}
+use Rattle.std.specs.Prelude.{◌↔◌}
+use Rattle.std.specs.Result.{IfOk}
+use Rattle.std.specs.Ordering.{nat_cmp, is_eq, is_ne}
+use Rattle.std.proofs.lemmas.Result.{IfOk-weaker}
+use Rattle.std.proofs.lemmas.Cmp.{nat_cmp_total, tied_itself}
+use Rattle.std.proofs.lemmas.Bool.Decides.{nat_tests}
+use Rattle.map_model.specs.Entries.{AllAbove, AllKeys, IsIncreasing, drop_key, lookup}
+use Rattle.map_model.specs.Fold.{fold_of}
+use Rattle.aug_monoid.specs.Totals.{totals_base, totals_combine, totals_unit}
+use Rattle.aug_monoid.specs.declared.totals.Totals.{Totals}
+use Rattle.map_model.proofs.Around.{drop_key-around_equal}
+use Rattle.map_model.proofs.Cuts.{length-around}
+use Rattle.map_model.proofs.Keys.{around}
+use Rattle.map_model.proofs.Lookups.{first_found, lookup-behind}
+use Rattle.map_model.proofs.NatKeys.{lt_from_less, nat_exact}
+use Rattle.inverted_index.specs.Queries.{hits_of, ranked, ranked_in, ranks_before}
+use Rattle.inverted_index.specs.declared.hit.Hit.{Hit}
+use Rattle.inverted_index.specs.Ranks.{AreBelow, AreLow, IsFirst, Leads}
+
+-- ---- what holds of each element
+
+pub all-front : {X : Type 0} (F : X → Type 0) (l r : List X) → AllByRecursion F (l ++ r) → AllByRecursion F l
+all-front F [] r a = tt
+all-front F (x ∷ l) r a = (a.0, all-front F l r a.1)
+
+pub all-back : {X : Type 0} (F : X → Type 0) (l r : List X) → AllByRecursion F (l ++ r) → AllByRecursion F r
+all-back F [] r a = a
+all-back F (x ∷ l) r a = all-back F l r a.1
+
+pub all-join : {X : Type 0} (F : X → Type 0) (l r : List X) → AllByRecursion F l → AllByRecursion F r → AllByRecursion F (l ++ r)
+all-join F [] r a b = b
+all-join F (x ∷ l) r a b = (a.0, all-join F l r a.1 b)
+
+-- ---- ranks
+
+all-ranked_in : (F : ℕ × ℕ → Type 0) (a : ℕ × ℕ) (s : List (ℕ × ℕ)) → F a → AllByRecursion F s → AllByRecursion F (ranked_in a s)
+all-ranked_in F a [] here there = (here, tt)
+all-ranked_in F a (b ∷ s) here there = elim (ranks_before a b) as (λ t. AllByRecursion F (cond t (a ∷ b ∷ s) (b ∷ ranked_in a s))) [ true ↦ (here, (there.0, there.1)) | false ↦ (there.0, all-ranked_in F a s here there.1) ]
+
+all-ranked : (F : ℕ × ℕ → Type 0) (s : List (ℕ × ℕ)) → AllByRecursion F s → AllByRecursion F (ranked s)
+all-ranked F [] a = tt
+all-ranked F (x ∷ s) a = all-ranked_in F x (ranked s) a.0 (all-ranked F s a.1)
+
+ranked_in-first : (a : ℕ × ℕ) (s : List (ℕ × ℕ)) → AllByRecursion (λ b. ranks_before a b ≡ true) s → ranked_in a s ≡ a ∷ s
+ranked_in-first a [] h = refl
+ranked_in-first a (b ∷ s) h = ap (λ t. cond t (a ∷ b ∷ s) (b ∷ ranked_in a s)) h.0
+
+lighter : (x d g : ℕ) (w : ℕ) → w < g → ranks_before (x, w) (d, g) ≡ false
+lighter x d g w h = grind (arith, nat_tests)
+
+no_heavier : (d g y v : ℕ) → v ≤ g → d < y → ranks_before (d, g) (y, v) ≡ true
+no_heavier d g y v h k = grind (arith, nat_tests)
+
+-- behind it: no heavier, and of greater numbers
+behind : (d g : ℕ) (back : List (ℕ × ℕ)) → AllByRecursion (λ e. e.1 ≤ g) back → AllAbove nat_cmp back d → AllByRecursion (λ b. ranks_before (d, g) b ≡ true) back
+behind d g [] low above = tt
+behind d g (e ∷ back) low above = (no_heavier d g e.0 e.1 low.0 (lt_from_less d e.0 above.0), behind d g back low.1 above.1)
+
+ranked-heaviest : (front : List (ℕ × ℕ)) (d g : ℕ) (back : List (ℕ × ℕ)) → AreBelow g front → AllByRecursion (λ e. e.1 ≤ g) back → AllAbove nat_cmp back d → ranked (front ++ (d, g) ∷ back) ≡ (d, g) ∷ ranked (front ++ back)
+ranked-heaviest [] d g back less low above = ranked_in-first (d, g) (ranked back) (all-ranked (λ b. ranks_before (d, g) b ≡ true) back (behind d g back low above))
+ranked-heaviest (x ∷ front) d g back less low above =
+    ap (ranked_in x) (ranked-heaviest front d g back less.1 low above)
+    ∙ ap (λ t. cond t (x ∷ (d, g) ∷ ranked (front ++ back)) ((d, g) ∷ ranked_in x (ranked (front ++ back)))) (lighter x.0 d g x.1 less.0)
+
+-- the first of the greatest weight leads
+pub leads : (es : List (ℕ × ℕ)) (g d : ℕ) → IsIncreasing nat_cmp es → AllByRecursion (λ e. e.1 ≤ g) es → IsFirst es g d → ranked es ≡ (d, g) ∷ ranked (drop_key nat_cmp es d)
+leads es g d rises low first =
+    let parts = all-back (λ e. e.1 ≤ g) first.front ((d, first.weight) ∷ first.back) (rw (← first.split) low) in
+    let same : first.weight ≡ g = omega (arith, parts.0, first.heavy) in
+    let split : es ≡ first.front ++ (d, g) ∷ first.back = first.split ∙ ap (λ w. first.front ++ (d, w) ∷ first.back) same in
+    let order : IsIncreasing nat_cmp (first.front ++ (d, g) ∷ first.back) = rw (← split) rises in
+    ap ranked split
+    ∙ ranked-heaviest first.front d g first.back first.less parts.1 (around nat_cmp first.front d g first.back order).upper
+    ∙ ap (λ x. (d, g) ∷ ranked x) (sym (ap (λ x. drop_key nat_cmp x d) split ∙ drop_key-around_equal nat_cmp_total first.front d g first.back d order (tied_itself nat_cmp_total d)))
+
+pub take_leading : (k i : ℕ) (a : ℕ × ℕ) (s : List (ℕ × ℕ)) → i < k → take (k - i) (a ∷ s) ≡ a ∷ take (k - (i + 1)) s
+take_leading k i a s h = let more : k - i ≡ suc (k - (i + 1)) = omega arith in rw more refl
+
+-- ---- the greatest weight
+
+abbrev pub totals_fold : List (ℕ × ℕ) → Totals
+totals_fold m = fold_of (λ (k v : ℕ). totals_base v) totals_unit totals_combine m
+
+-- no weight is above it
+pub greatest_above : (m : List (ℕ × ℕ)) (g : ℕ) → AreLow m → (totals_fold m).greatest ≤ g → AllByRecursion (λ e. e.1 ≤ g) m
+greatest_above [] g low h = tt
+greatest_above (e ∷ m) g low h = (omega (arith, low.0, h), greatest_above m g low.1 (omega (arith, h)))
+
+pub greatest_below : (m : List (ℕ × ℕ)) (g : ℕ) → AreLow m → (totals_fold m).greatest < g → AreBelow g m
+greatest_below [] g low h = tt
+greatest_below (e ∷ m) g low h = (omega (arith, low.0, h), greatest_below m g low.1 (omega (arith, h)))
+
+-- some document has it
+below_greatest : (m : List (ℕ × ℕ)) (g : ℕ) → 0 < g → AreBelow g m → (totals_fold m).greatest < g
+below_greatest [] g h less = h
+below_greatest (e ∷ m) g h less = let rest = below_greatest m g h less.1 in omega (arith, less.0, rest)
+
+pub some_greatest : (m : List (ℕ × ℕ)) → (m ≡ [] → ⊥) → AreBelow (totals_fold m).greatest m → ⊥
+some_greatest [] filled less = filled refl
+some_greatest (e ∷ m) filled less = let bad = below_greatest (e ∷ m) (totals_fold (e ∷ m)).greatest (omega (arith, less.0)) less in omega (arith, bad)
+
+-- ---- a first document in a part
+
+-- in the front
+pub first_front : (m l r : List (ℕ × ℕ)) (g d : ℕ) → m ≡ l ++ r → IsFirst l g d → IsFirst m g d
+first_front m l r g d is first = record {
+  front = first.front;
+  weight = first.weight;
+  back = first.back ++ r;
+  split = is ∙ ap (λ x. x ++ r) first.split ∙ append_assoc first.front ((d, first.weight) ∷ first.back) r;
+  less = first.less;
+  heavy = first.heavy;
+}
+
+-- in the middle
+pub first_middle : (m l r : List (ℕ × ℕ)) (g d w : ℕ) → m ≡ l ++ (d, w) ∷ r → AreBelow g l → g ≤ w → IsFirst m g d
+first_middle m l r g d w is less heavy = record { front = l; weight = w; back = r; split = is; less = less; heavy = heavy }
+
+-- at the end
+pub first_back : (m l r : List (ℕ × ℕ)) (g d k w : ℕ) → m ≡ l ++ (k, w) ∷ r → AreBelow g l → w < g → IsFirst r g d → IsFirst m g d
+first_back m l r g d k w is less light first = record {
+  front = l ++ (k, w) ∷ first.front;
+  weight = first.weight;
+  back = first.back;
+  split = is ∙ ap (λ x. l ++ (k, w) ∷ x) first.split ∙ sym (append_assoc l ((k, w) ∷ first.front) ((d, first.weight) ∷ first.back));
+  less = all-join (λ e. e.1 < g) l ((k, w) ∷ first.front) less (light, first.less);
+  heavy = first.heavy;
+}
+
+pub low_fits : (m : List (ℕ × ℕ)) → IsIncreasing nat_cmp m → ((q w : ℕ) → lookup nat_cmp m q ≡ Some w → w ≤ 2 ^ 64 - 1) → AreLow m
+low_fits [] s h = tt
+low_fits (e ∷ m) s h = (h e.0 e.1 (first_found nat_cmp_total e m), low_fits m s.1 (λ q w is. h q w (behind_first q w is)))
+  where
+    behind_first : (q w : ℕ) → lookup nat_cmp m q ≡ Some w → lookup nat_cmp (e ∷ m) q ≡ Some w
+    behind_first q w is =
+        elim (nat_cmp e.0 q) as (λ o. nat_cmp e.0 q ≡ o → cond (is_eq o) (Some e.1) (lookup nat_cmp m q) ≡ Some w) [
+          | Less ↦ λ _. is
+          | Equal ↦ λ ties. absurd (let bad : ◌≡◌ {A = Option ℕ} None (Some w) = sym (lookup-behind nat_cmp_total e m q s ties) ∙ is in cc)
+          | Greater ↦ λ _. is
+        ] refl
+
+-- the sides of an entry
+pub low_left : (es l r : List (ℕ × ℕ)) (k v : ℕ) → es ≡ l ++ (k, v) ∷ r → AreLow es → AreLow l
+low_left es l r k v is low = let Low : List (ℕ × ℕ) → Type 0 = λ m. AreLow m in all-front (λ e. e.1 ≤ 2 ^ 64 - 1) l ((k, v) ∷ r) (subst Low is low)
+
+pub low_right : (es l r : List (ℕ × ℕ)) (k v : ℕ) → es ≡ l ++ (k, v) ∷ r → AreLow es → AreLow r
+low_right es l r k v is low = let Low : List (ℕ × ℕ) → Type 0 = λ m. AreLow m in (all-back (λ e. e.1 ≤ 2 ^ 64 - 1) l ((k, v) ∷ r) (subst Low is low)).1
+
+-- what the right side answers where the left and the middle are below
+pub right_answers : {E : Type 0} (answer : Result (Option ℕ) E) (es l r : List (ℕ × ℕ)) (g k v : ℕ) → es ≡ l ++ (k, v) ∷ r → AreBelow g l → v < g → IfOk answer (λ doc. MatchOption doc (AreBelow g r) (IsFirst r g)) → IfOk answer (λ doc. MatchOption doc (AreBelow g es) (IsFirst es g))
+right_answers answer es l r g k v is less light h = IfOk-weaker answer (λ doc. MatchOption doc (AreBelow g r) (IsFirst r g)) (λ doc. MatchOption doc (AreBelow g es) (IsFirst es g)) (whole) h
+  where
+    whole : (doc : Option ℕ) → MatchOption doc (AreBelow g r) (IsFirst r g) → MatchOption doc (AreBelow g es) (IsFirst es g)
+    whole None below = let Below : List (ℕ × ℕ) → Type 0 = λ m. AreBelow g m in subst Below (sym is) (all-join (λ e. e.1 < g) l ((k, v) ∷ r) less (light, below))
+    whole (Some d) first = first_back es l r g d k v is less light first
+
+pub heaviest_leads : (es : List (ℕ × ℕ)) (g d : ℕ) → IsIncreasing nat_cmp es → AreLow es → g ≡ (totals_fold es).greatest → IsFirst es g d → ranked es ≡ (d, g) ∷ ranked (drop_key nat_cmp es d)
+heaviest_leads es g d rises low is first = leads es g d rises (greatest_above es g low (omega (arith, is))) first
+
+pub low_dropped : (m es : List (ℕ × ℕ)) (d : ℕ) → m ≡ drop_key nat_cmp es d → AreLow es → AreLow m
+low_dropped m es d is low = let Low : List (ℕ × ℕ) → Type 0 = λ x. AreLow x in subst Low (sym is) (all-filter (λ e. e.1 ≤ 2 ^ 64 - 1) (λ e. is_ne (nat_cmp e.0 d)) es low)
+  where
+    all-filter : (F : ℕ × ℕ → Type 0) (p : ℕ × ℕ → Bool) (xs : List (ℕ × ℕ)) → AllByRecursion F xs → AllByRecursion F (filter p xs)
+    all-filter F p [] a = tt
+    all-filter F p (x ∷ xs) a = elim (p x) as (λ b. AllByRecursion F (cond b (x ∷ filter p xs) (filter p xs))) [ true ↦ (a.0, all-filter F p xs a.1) | false ↦ all-filter F p xs a.1 ]
+
+-- one hit more
+pub top_more : (all hits more : List Hit) (k i : ℕ) (es rest : List (ℕ × ℕ)) (hit : Hit) → i < k → all ≡ hits ++ hits_of (take (k - i) (ranked es)) → ranked es ≡ (hit.doc, hit.weight) ∷ ranked (drop_key nat_cmp es hit.doc) → rest ≡ drop_key nat_cmp es hit.doc → more ≡ hits ++ hit ∷ [] → all ≡ more ++ hits_of (take (k - (i + 1)) (ranked rest))
+top_more all hits more k i es rest hit low so_far leading dropped pushed =
+    so_far
+    ∙ ap (λ x. hits ++ hits_of x) (ap (take (k - i)) leading ∙ take_leading k i (hit.doc, hit.weight) (ranked (drop_key nat_cmp es hit.doc)) low)
+    ∙ sym (append_assoc hits (hit ∷ []) (hits_of (take (k - (i + 1)) (ranked (drop_key nat_cmp es hit.doc)))))
+    ∙ ap₂ (λ x y. x ++ hits_of (take (k - (i + 1)) (ranked y))) (sym pushed) (sym dropped)
+
+-- none are left
+pub top_done : (all hits : List Hit) (k i : ℕ) (es : List (ℕ × ℕ)) → all ≡ hits ++ hits_of (take (k - i) (ranked es)) → es ≡ [] → hits ≡ all
+top_done all hits k i es so_far none = sym (so_far ∙ ap (λ x. hits ++ hits_of (take (k - i) (ranked x))) none ∙ ap (λ x. hits ++ hits_of x) (take-nil (k - i)) ∙ append-nil hits)
+  where
+    take-nil : (n : ℕ) → ◌≡◌ {A = List (ℕ × ℕ)} (take n []) []
+    take-nil zero = refl
+    take-nil (suc n) = refl
+
+-- all are there
+pub top_end : (all hits : List Hit) (k i : ℕ) (es : List (ℕ × ℕ)) → all ≡ hits ++ hits_of (take (k - i) (ranked es)) → k ≤ i → hits ≡ all
+top_end all hits k i es so_far enough =
+    let none : k - i ≡ 0 = omega arith in
+    sym (so_far ∙ ap (λ n. hits ++ hits_of (take n (ranked es))) none ∙ append-nil hits)
+
+pub left_shorter : (es l r : List (ℕ × ℕ)) (k v : ℕ) → es ≡ l ++ (k, v) ∷ r → length l < length es
+left_shorter es l r k v is = let e : length es ≡ length l + length r + 1 = ap length is ∙ length-around l (k, v) r in omega arith
+
+pub right_shorter : (es l r : List (ℕ × ℕ)) (k v : ℕ) → es ≡ l ++ (k, v) ∷ r → length r < length es
+right_shorter es l r k v is = let e : length es ≡ length l + length r + 1 = ap length is ∙ length-around l (k, v) r in omega arith
+
+-- some document has the greatest weight
+pub no_greatest : (totals : Totals) (m : List (ℕ × ℕ)) → (IsNone (Some totals) ↔ (m ≡ [])) → totals ≡ totals_fold m → AreBelow totals.greatest m → ⊥
+no_greatest totals [] none is less = let bad : true ≡ false = none.1 refl in cc
+no_greatest totals (e ∷ m) none is less = some_greatest (e ∷ m) (λ empty. cc) (let Below : Totals → Type 0 = λ t. AreBelow t.greatest (e ∷ m) in subst Below is less)
+
+pub leads_some : (m : List (ℕ × ℕ)) (o : Option Hit) (hit : Hit) → Leads m o → o ≡ Some hit → ranked m ≡ (hit.doc, hit.weight) ∷ ranked (drop_key nat_cmp m hit.doc)
+leads_some m o hit h is = let Is : Option Hit → Type 0 = λ x. Leads m x in subst Is is h

@@ -1,0 +1,5 @@
+use Rattle.std.proofs.Common.{length}
+use Rattle.inverted_index.proofs.tally.+tally.Given as goal
+
+abbrev pub decreases-tally : goal.decreases-tally
+decreases-tally g l = length l.terms.now

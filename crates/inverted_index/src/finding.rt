@@ -1,0 +1,116 @@
+//! Postings that are found.
+ghost use Rattle.std.specs.Prelude.{◌≡◌, ◌<◌, IfOk, IsPermutation, map, []};
+ghost use Rattle.std.specs.Ordering.{nat_cmp};
+ghost use Rattle.map_model.specs.Entries.{IsIncreasing};
+ghost use Rattle.inverted_index.specs.Merging.{common, joined, postings_at};
+ghost use Rattle.inverted_index.specs.Queries.{hits_of};
+
+use crate::hit::Hit;
+use crate::index::Lists;
+use crate::postings::{Postings, Weights};
+use crate::term::Term;
+use aug_monoid::{NoMemory, SatSum, Share, Steps};
+use fork_join::{Cut, Gate};
+use std::alloc::Global;
+use std::marker::Sync;
+use std::sync::ledger::{Blank, Ledger};
+use std::thread::Threads;
+
+/// The postings of a term, empty where there is no such term.
+pub(crate) fn find_list<C: Ledger>(
+    alloc: Global,
+    lists: &Lists,
+    term: &Term,
+    steps: &mut Steps<C>,
+) -> Result<Postings, NoMemory>
+    ensures { IfOk result (λ postings. postings ≡ postings_at lists.now.entries term.now) }
+{
+    match lists.get(alloc, term, steps)? {
+        Some(postings) => Ok(postings),
+        None => Ok(Postings::empty()),
+    }
+}
+
+/// The postings of each of some terms.
+pub(crate) fn find_lists<C: Ledger>(
+    alloc: Global,
+    lists: &Lists,
+    terms: &[Term],
+    blank: Blank,
+) -> Result<Vec<Postings>, NoMemory>
+    requires name { blank.name ≡ C.name }
+    requires parts { blank.parts ≡ C.parts }
+    requires some { 0 < blank.parts }
+    ensures { IfOk result (λ found. found.items ≡ map (postings_at lists.now.entries) terms.now) }
+{
+    let mut steps = Steps::<C>::start(blank);
+    let mut found = Vec::with_capacity(alloc, terms.len())?;
+    for term in terms {
+        found.push(find_list(alloc, lists, term, &mut steps)?)?;
+    }
+    Ok(found)
+}
+
+/// The smallest first.
+pub(crate) fn by_size(mut lists: Vec<Postings>) -> Result<Vec<Postings>, NoMemory>
+    ensures { IfOk result (λ sorted. IsPermutation lists.items sorted.items) }
+{
+    lists.sort_by_key(|list| list.map().size())?;
+    Ok(lists)
+}
+
+/// The documents of a map that all lists have, with the sums of their weights.
+#[tactic(auto, using(crate::proofs::Steps::common_more))]
+pub(crate) fn common<R: Threads + Sync, G: Gate>(
+    rt: &R,
+    alloc: Global,
+    gate: &G,
+    cut: Cut,
+    known: &Weights,
+    lists: &[Postings],
+) -> Result<Weights, NoMemory>
+    ensures entries { IfOk result (λ found. found.entries ≡ common known.now.entries lists.now) }
+    ensures rises { IfOk result (λ found. IsIncreasing nat_cmp found.entries) }
+{
+    let mut found = known.share(alloc)?;
+    for list in lists {
+        found = found.intersect(rt, alloc, gate, cut, list.map(), &SatSum)?;
+    }
+    let _size = found.size();
+    Ok(found)
+}
+
+/// The documents that one of the lists has, with the sums of their weights.
+#[tactic(auto, using(crate::proofs::Steps::joined_more))]
+pub(crate) fn joined<R: Threads + Sync, G: Gate>(
+    rt: &R,
+    alloc: Global,
+    gate: &G,
+    cut: Cut,
+    lists: &[Postings],
+) -> Result<Weights, NoMemory>
+    ensures entries { IfOk result (λ found. found.entries ≡ joined [] lists.now) }
+    ensures rises { IfOk result (λ found. IsIncreasing nat_cmp found.entries) }
+{
+    let mut found = Weights::empty();
+    for list in lists {
+        found = found.union(rt, alloc, gate, cut, list.map(), &SatSum)?;
+    }
+    let _size = found.size();
+    Ok(found)
+}
+
+/// The documents of a map with their weights.
+pub(crate) fn hits_of(alloc: Global, weights: &Weights) -> Result<Vec<Hit>, NoMemory>
+    ensures { IfOk result (λ hits. hits.items ≡ hits_of weights.now.entries) }
+{
+    let entries = weights.to_vec(alloc)?;
+    let hits = entries
+        .iter()
+        .map(|entry| Hit {
+            doc: entry.0,
+            weight: entry.1,
+        })
+        .collect(alloc)?;
+    Ok(hits)
+}

@@ -1,0 +1,72 @@
+//! Postings: documents with weights.
+ghost use Rattle.std.specs.Prelude.{◌≡◌, [], ◌∷◌, IfOk};
+ghost use Rattle.inverted_index.specs.Merging.{merged, single};
+
+use aug_map::PlainMap;
+use aug_monoid::{First, NoMemory, Resolve, Share, SumMax};
+use std::alloc::Global;
+use std::marker::Model;
+
+/// Weights by document, with the greatest of them.
+pub type Weights = PlainMap<SumMax<u64>>;
+
+/// The documents that have a term, with its weights, seen as their list by rising number.
+#[derive(Drop)]
+pub struct Postings {
+    weights: Weights,
+}
+
+impl Model for Postings {
+    ghost use Rattle.std.specs.Prelude.{List, ℕ};
+
+    ghost Value = { List (ℕ × ℕ) };
+
+    ghost view = { λ p. p.weights.entries };
+}
+
+impl Postings {
+    pub(crate) fn empty() -> Postings
+        ensures { result ≡ [] }
+    {
+        Postings {
+            weights: Weights::empty(),
+        }
+    }
+
+    /// Postings of one document.
+    pub(crate) fn single(alloc: Global, doc: u64, weight: u64) -> Result<Postings, NoMemory>
+        ensures { IfOk result (λ postings. postings ≡ single doc weight) }
+    {
+        let weights = Weights::single(alloc, doc, weight)?;
+        Ok(Postings { weights })
+    }
+
+    /// Lends the map from documents to weights.
+    pub fn map(&self) -> &Weights
+        ensures { result.now.entries ≡ self.now }
+    {
+        &self.weights
+    }
+}
+
+impl Share for Postings {
+    ghost never_refuses = { ⊥ };
+
+    fn share(&self, alloc: Global) -> Result<Postings, NoMemory> {
+        let weights = self.weights.share(alloc)?;
+        Ok(Postings { weights })
+    }
+}
+
+/// The documents of either postings; those of both keep the first weight.
+#[derive(Drop)]
+pub(crate) struct Merge;
+
+impl Resolve<Postings> for Merge {
+    ghost resolved = { λ _ a b. merged a b };
+
+    fn resolve(&self, alloc: Global, a: &Postings, b: &Postings) -> Result<Postings, NoMemory> {
+        let weights = Weights::merge(alloc, &a.weights, &b.weights, &First)?;
+        Ok(Postings { weights })
+    }
+}

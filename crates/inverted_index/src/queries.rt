@@ -1,0 +1,100 @@
+//! Questions to an index.
+ghost use Rattle.std.specs.Prelude.{◌≡◌, ◌<◌, IfOk};
+ghost use Rattle.std.specs.Ordering.{nat_cmp};
+ghost use Rattle.map_model.specs.Entries.{IsIncreasing};
+ghost use Rattle.map_model.specs.SetOperations.{difference};
+ghost use Rattle.inverted_index.specs.Merging.{postings_at};
+ghost use Rattle.inverted_index.specs.Queries.{all_of, any_of, hits_of, top, without};
+
+use crate::finding::{by_size, common, find_list, find_lists, hits_of, joined};
+use crate::hit::Hit;
+use crate::index::{Index, Lists};
+use crate::postings::{Postings, Weights};
+use crate::ranking::top;
+use crate::term::Term;
+use aug_monoid::{NoMemory, Steps};
+use fork_join::{Cut, Gate};
+use std::alloc::Global;
+use std::marker::{Brand, Sync};
+use std::sync::ledger::{Blank, Ledger};
+use std::thread::Threads;
+
+// The postings of one term.
+fn find_one<C: Ledger>(
+    alloc: Global,
+    lists: &Lists,
+    term: &Term,
+    blank: Blank,
+) -> Result<Postings, NoMemory>
+    requires name { blank.name ≡ C.name }
+    requires parts { blank.parts ≡ C.parts }
+    requires some { 0 < blank.parts }
+    ensures { IfOk result (λ postings. postings ≡ postings_at lists.now.entries term.now) }
+{
+    let mut steps = Steps::<C>::start(blank);
+    find_list(alloc, lists, term, &mut steps)
+}
+
+impl Index {
+    /// The documents that have all terms, by rising number. The weight of a document is the saturating sum of its weights of the
+    /// terms, as often as they are named. Postings are intersected smallest first.
+    pub fn all_of<R: Threads + Sync, G: Gate>(
+        &self,
+        rt: &R,
+        alloc: Global,
+        gate: &G,
+        cut: Cut,
+        terms: &[Term],
+    ) -> Result<Vec<Hit>, NoMemory>
+        ensures { IfOk result (λ hits. hits.items ≡ hits_of (all_of self.now terms.now)) }
+    {
+        let lists = find_lists::<Brand>(alloc, &self.lists, terms, Blank::new(1))?;
+        let sorted = by_size(lists)?;
+        let found = common(rt, alloc, gate, cut, &self.known, &sorted)?;
+        hits_of(alloc, &found)
+    }
+
+    /// The documents that have one of the terms, by rising number, with weights as `all_of` has them; a term that a document hasn't
+    /// weighs 0 there.
+    pub fn any_of<R: Threads + Sync, G: Gate>(
+        &self,
+        rt: &R,
+        alloc: Global,
+        gate: &G,
+        cut: Cut,
+        terms: &[Term],
+    ) -> Result<Vec<Hit>, NoMemory>
+        ensures { IfOk result (λ hits. hits.items ≡ hits_of (any_of self.now terms.now)) }
+    {
+        let lists = find_lists::<Brand>(alloc, &self.lists, terms, Blank::new(1))?;
+        let found = joined(rt, alloc, gate, cut, &lists)?;
+        hits_of(alloc, &found)
+    }
+
+    /// The documents that have one term and not another, by rising number, with the weight of the first.
+    pub fn without<R: Threads + Sync, G: Gate>(
+        &self,
+        rt: &R,
+        alloc: Global,
+        gate: &G,
+        cut: Cut,
+        has: &Term,
+        not: &Term,
+    ) -> Result<Vec<Hit>, NoMemory>
+        ensures { IfOk result (λ hits. hits.items ≡ hits_of (without self.now has.now not.now)) }
+    {
+        let first = find_one::<Brand>(alloc, &self.lists, has, Blank::new(1))?;
+        let second = find_one::<Brand>(alloc, &self.lists, not, Blank::new(1))?;
+        let found = first.map().difference(rt, alloc, gate, cut, second.map())?;
+        hits_of(alloc, &found)
+    }
+
+    /// The first `k` documents that have a term, by falling weight, and by rising number where weights are equal. For n documents
+    /// that have the term it takes time linear in k * log n.
+    pub fn top(&self, alloc: Global, k: u64, term: &Term) -> Result<Vec<Hit>, NoMemory>
+        ensures { IfOk result (λ hits. hits.items ≡ hits_of (top self.now k term.now)) }
+    {
+        let list = find_one::<Brand>(alloc, &self.lists, term, Blank::new(1))?;
+        top::<Brand>(alloc, list.map(), k, Blank::new(1))
+    }
+}
