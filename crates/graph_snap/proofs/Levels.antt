@@ -2,7 +2,7 @@
 use Rattle.std.proofs.Common.{◌≡◌, ◌∙◌, ◌+◌, ◌-◌, ◌<◌, ◌≤◌, ◌&&◌, ◌||◌, ◌==◌, ◌∷◌, [], ℕ, zero, suc, Bool, true, false, not, cond, List, Option, None, Some, length, refl, sym, ap, subst, inl, inr, ◌⊎◌, ⊎_elim, eq-eqb, add-zero, add-suc, arith}
 use Rattle.std.specs.List.{filter, list_any}
 use Rattle.std.specs.Option.{is_none, is_some, option_or}
-use Rattle.std.proofs.lemmas.Bool.{and_from, and_parts, cases_lt, false≢true}
+use Rattle.std.proofs.lemmas.Bool.{and_from, and_parts, cases_lt, false≢true, or_right}
 use Rattle.std.proofs.lemmas.Map.Views.{exact_unsigned_eq}
 use Rattle.std.proofs.lemmas.Option.{none-some, same_Some}
 use Rattle.map_model.proofs.Lengths.{length-filter_le}
@@ -14,10 +14,6 @@ pub same_bool : (a b : Bool) → (a ≡ true → b ≡ true) → (b ≡ true →
 same_bool true b f g = sym (f refl)
 same_bool false true f g = g refl
 same_bool false false f g = refl
-
-or_right : (a b : Bool) → b ≡ true → (a || b) ≡ true
-or_right true b h = refl
-or_right false b h = h
 
 -- each test that x passes is passed in the list
 abbrev pub Has : {X : Type 0} → List X → X → Type 0
@@ -58,7 +54,7 @@ keeps_less p q (x ∷ xs) wider h =
 
 -- ---- the least number that passes
 
-none_left : (b : Bool) (n : ℕ) → cond b (Some n) None ≡ None → b ≡ false
+pub none_left : (b : Bool) (n : ℕ) → cond b (Some n) None ≡ None → b ≡ false
 none_left true n h = absurd (none-some n (sym h))
 none_left false n h = refl
 

@@ -1,2 +1,4 @@
 pub mod Levels
 pub mod Sets
+pub mod Counts
+pub mod Search

@@ -107,10 +107,10 @@ module _ (u : ℕ) where
   fan_before [] sets h = tt
   fan_before (x ∷ ns) sets h = (above_edges x.0 sets h, fan_before ns sets h)
 
-first_filled : (s : ℕ × List (ℕ × Unit {0})) (sets : Sets) → AreSets (s ∷ sets) → IsFilled s.1
+pub first_filled : (s : ℕ × List (ℕ × Unit {0})) (sets : Sets) → AreSets (s ∷ sets) → IsFilled s.1
 first_filled s sets are = are.filled s.0 s.1 (first_found nat_cmp_total s sets)
 
-rest_filled : (s : ℕ × List (ℕ × Unit {0})) (sets : Sets) → AreSets (s ∷ sets) → AreSets sets
+pub rest_filled : (s : ℕ × List (ℕ × Unit {0})) (sets : Sets) → AreSets (s ∷ sets) → AreSets sets
 rest_filled s sets are = record {
   increasing = are.increasing.1;
   filled = λ u ns h. are.filled u ns (elim (is_eq (nat_cmp s.0 u)) as (λ b. cond b None (cond b (Some s.1) (lookup nat_cmp sets u)) ≡ Some ns → cond b (Some s.1) (lookup nat_cmp sets u) ≡ Some ns) [
@@ -203,7 +203,7 @@ module _ (sets : Sets) (u : ℕ) where
       from_filled (n ∷ ns) ms rises is = subst IsFilled (same_Some (n ∷ ns) ms is) (record { some = omega arith; increasing = rises })
 
   -- what is found in the set of the vertex
-  found-set_at : (q v : ℕ) → nat_cmp u q ≡ Equal → lookup nat_cmp (set_at sets u) v ≡ edge_in sets q v
+  pub found-set_at : (q v : ℕ) → nat_cmp u q ≡ Equal → lookup nat_cmp (set_at sets u) v ≡ edge_in sets q v
   found-set_at q v is =
       ap (λ w. lookup nat_cmp (set_at sets w) v) (nat_exact u q is)
       ∙ elim (lookup nat_cmp sets q) as (λ o. lookup nat_cmp (unwrap_or o []) v ≡ option_and_then (λ ns. lookup nat_cmp ns v) o) [ None ↦ refl | Some ns ↦ refl ]

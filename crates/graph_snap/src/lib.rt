@@ -2,5 +2,9 @@
 #![tactic(auto)]
 
 mod edge;
+mod neighbours;
+mod vertices;
 
 pub use edge::{Edge, Reached};
+pub use neighbours::Neighbours;
+pub use vertices::Vertices;
