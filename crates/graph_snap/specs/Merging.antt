@@ -9,6 +9,7 @@ use Rattle.map_model.specs.Operations.{build}
 use Rattle.map_model.specs.SetOperations.{difference, union}
 use Rattle.map_model.proofs.Lookups.{equal_lookups}
 use Rattle.map_model.proofs.NatKeys.{nat_exact}
+use Rattle.map_model.proofs.Operations.{IsIncreasing-build}
 use Rattle.map_model.proofs.Unions.{IsIncreasing-union, lookup-union, nil-union, united}
 use Rattle.graph_snap.specs.Edges.{Sets, set_at}
 
@@ -18,6 +19,9 @@ merged a b = union nat_cmp (λ x y. x) a b
 -- the set of a vertex, in order
 abbrev pub set_in_order : Sets → ℕ → List (ℕ × Unit {0})
 set_in_order sets u = build nat_cmp (set_at sets u)
+
+pub in_order_fits : (sets : Sets) (u : ℕ) → IsIncreasing nat_cmp (set_in_order sets u)
+in_order_fits sets u = IsIncreasing-build nat_cmp_total (set_at sets u)
 
 -- the out-neighbours of all vertices of a front
 abbrev pub neighbours_of : Sets → List (ℕ × ℕ) → List (ℕ × Unit {0})

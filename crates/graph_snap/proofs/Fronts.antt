@@ -264,3 +264,13 @@ search_ends g s d (e ∷ front) found search_is h = absurd (let none : ⊥ = ome
 search_ends g s d [] found search_is h =
     equal_lookups nat_cmp_total nat_exact found (distances g s) search_is.found_rises (distances_rise g s) (λ v.
     search_is.found_at v ∙ settled g s d (λ v. none_left (level g s d v) d (sym (search_is.front_at v))) v ∙ sym (found-distances g s v))
+
+-- the step of the search, at the values that the program has
+pub goes_on : (sets : Sets) → IsIncreasing nat_cmp sets → (s d more : ℕ) (front found next all : List (ℕ × ℕ)) → IsSearch (edges_of sets) s d front found → more ≡ d + 1 → next ≡ next_front sets front found more → all ≡ union nat_cmp (λ x y. x) found next → IsSearch (edges_of sets) s more next all
+goes_on sets rises s d more front found next all so_far m n a =
+    let e : suc d ≡ more = omega (arith, m) in
+    let step = search_goes_on sets rises s d front found so_far in
+    let g = edges_of sets in
+    subst (λ x. IsSearch g s more next x) (sym a)
+    (subst (λ x. IsSearch g s more x (union nat_cmp (λ x y. x) found x)) (sym n)
+    (subst (λ k. IsSearch g s k (next_front sets front found k) (union nat_cmp (λ x y. x) found (next_front sets front found k))) e step))
