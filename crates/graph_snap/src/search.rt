@@ -1,17 +1,14 @@
 //! The search by fronts: each has the vertices at one distance.
-ghost use Rattle.std.specs.Prelude.{◌≡◌, [], ◌∷◌, length, IfOk};
-ghost use Rattle.std.specs.Ordering.{nat_cmp};
-ghost use Rattle.map_model.specs.Entries.{IsIncreasing};
-ghost use Rattle.map_model.specs.Operations.{build};
+ghost use Rattle.std.specs.Prelude.{◌≡◌, IfOk};
 ghost use Rattle.graph_snap.specs.Edges.{AreSets, edges_of};
-ghost use Rattle.graph_snap.specs.Merging.{at_distance, in_order_fits, merged, merged_monoid, neighbours_of, next_front, set_in_order};
+ghost use Rattle.graph_snap.specs.Merging.{at_distance, neighbours_of, next_front, set_in_order};
 ghost use Rattle.graph_snap.specs.Walks.{as_reached, reach};
 
 use crate::edge::Reached;
 use crate::neighbours::Neighbours;
 use crate::vertices::{Vertices, set_at};
 use aug_map::CodedMap;
-use aug_monoid::{First, NoMemory, Nothing, Reduce, Share};
+use aug_monoid::{First, NoMemory, Nothing, Share};
 use fork_join::{Cut, Gate};
 use std::alloc::Global;
 use std::marker::Sync;
@@ -34,56 +31,46 @@ fn set_in_order(
     Ok(set)
 }
 
-// The union of the sets of a front's vertices.
-#[derive(Drop)]
-struct Spread<'a> {
-    vertices: &'a Vertices,
-}
-
-impl<'a> Reduce<u64, u64> for Spread<'a> {
-    type Out = Neighbours;
-
-    ghost Fits = { λ _ set. IsIncreasing nat_cmp set };
-
-    ghost image_of = { λ s key _. set_in_order s.vertices.now.entries key };
-
-    ghost unit_of = { λ _. [] };
-
-    ghost met = { λ _ a b. merged a b };
-
-    ghost image_fits = { λ s key _. in_order_fits s.vertices.now.entries key };
-
-    ghost monoid = { λ _. merged_monoid };
-
-    fn of(&self, alloc: Global, key: &u64, _val: &u64) -> Result<Neighbours, NoMemory> {
-        set_in_order(alloc, self.vertices, *key)
+// The out-neighbours of all vertices of a front.
+fn neighbours_of(
+    alloc: Global,
+    vertices: &Vertices,
+    front: &[(u64, u64)],
+) -> Result<Neighbours, NoMemory>
+    ensures { IfOk result (λ near. near ≡ neighbours_of vertices.now.entries front.now) }
+{
+    let mut near = Neighbours::none();
+    for (vertex, _) in front {
+        let set = set_in_order(alloc, vertices, *vertex)?;
+        near = near.merged(alloc, &set)?;
     }
-
-    fn unit(&self) -> Neighbours {
-        Neighbours::none()
-    }
-
-    fn meet(&self, alloc: Global, a: Neighbours, b: Neighbours) -> Result<Neighbours, NoMemory> {
-        a.merged(alloc, &b)
-    }
+    Ok(near)
 }
 
 // Vertices with one distance.
-fn all_at<R: Threads + Sync, G: Gate>(
-    rt: &R,
-    alloc: Global,
-    gate: &G,
-    cut: Cut,
-    near: &[(u64, ())],
-    distance: u64,
-) -> Result<Distances, NoMemory>
-    ensures { IfOk result (λ all. all.entries ≡ build nat_cmp (at_distance distance near.now)) }
+fn pairs_at(alloc: Global, near: &[(u64, ())], distance: u64) -> Result<Vec<(u64, u64)>, NoMemory>
+    ensures { IfOk result (λ pairs. pairs.items ≡ at_distance distance near.now) }
 {
-    let pairs: Vec<(u64, u64)> = near
+    let pairs = near
         .iter()
         .map(|entry| (entry.0, distance))
         .collect(alloc)?;
-    CodedMap::build(rt, alloc, gate, cut, &pairs)
+    Ok(pairs)
+}
+
+// The vertices that an edge leads to from a front, with their distance.
+fn near_pairs(
+    alloc: Global,
+    vertices: &Vertices,
+    front: &Distances,
+    distance: u64,
+) -> Result<Vec<(u64, u64)>, NoMemory>
+    ensures { IfOk result (λ pairs. pairs.items ≡ at_distance distance (neighbours_of vertices.now.entries front.now.entries)) }
+{
+    let entries = front.to_vec(alloc)?;
+    let near = neighbours_of(alloc, vertices, &entries)?;
+    let keys = near.map().to_vec(alloc)?;
+    pairs_at(alloc, &keys, distance)
 }
 
 // The vertices that an edge leads to from a front and that were not found before.
@@ -99,10 +86,9 @@ fn next_front<R: Threads + Sync, G: Gate>(
 ) -> Result<Distances, NoMemory>
     ensures { IfOk result (λ next. next.entries ≡ next_front vertices.now.entries front.now.entries found.now.entries distance) }
 {
-    let near: Neighbours = front.map_reduce(rt, alloc, gate, cut, &Spread { vertices })?;
-    let entries: Vec<(u64, ())> = near.map().to_vec(alloc)?;
-    let all = all_at(rt, alloc, gate, cut, &entries, distance)?;
-    all.difference(rt, alloc, gate, cut, found)
+    let pairs = near_pairs(alloc, vertices, front, distance)?;
+    let near: Distances = CodedMap::build(rt, alloc, gate, cut, &pairs)?;
+    near.difference(rt, alloc, gate, cut, found)
 }
 
 // Distances as a list.
@@ -135,7 +121,7 @@ pub(crate) fn search<R: Threads + Sync, G: Gate>(
     let mut front = Distances::single(alloc, from, 0)?;
     let mut found = front.share(alloc)?;
     let mut distance: u64 = 0;
-    while front.size() > 0 {
+    'levels: while front.size() > 0 {
         distance = distance.checked_add(1).ok_or(NoMemory)?;
         front = next_front(rt, alloc, gate, cut, vertices, &front, &found, distance)?;
         found = found.union(rt, alloc, gate, cut, &front, &First)?;

@@ -1,4 +1,0 @@
-use Rattle.graph_snap.proofs.search.all_at.Goals as goal
-
-pub returns : goal.returns
-returns g c = ?
