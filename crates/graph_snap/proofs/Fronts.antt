@@ -1,5 +1,5 @@
 -- A search by fronts: what it has found at each level, and at the end.
-use Rattle.std.proofs.Common.{◌≡◌, ◌∙◌, ◌+◌, ◌<◌, ◌≤◌, ◌&&◌, ◌++◌, ◌∷◌, ◌==◌, ◌||◌, [], ℕ, zero, suc, Bool, true, false, cond, List, Option, None, Some, length, map, refl, sym, ap, ap₂, subst, arith, eq-eqb}
+use Rattle.std.proofs.Common.{◌≡◌, ◌∙◌, ◌+◌, ◌-◌, ◌<◌, ◌≤◌, ◌&&◌, ◌++◌, ◌∷◌, ◌==◌, ◌||◌, [], ℕ, zero, suc, Bool, true, false, cond, List, Option, None, Some, length, map, refl, sym, ap, ap₂, subst, arith, eq-eqb}
 use Rattle.std.specs.declared.cmp.Ordering.{Ordering}
 use Rattle.std.specs.declared.cmp.Ordering.TheVariants.{Less, Equal, Greater}
 use Rattle.std.specs.Cmp.{IsTotalOrder}
@@ -274,3 +274,17 @@ goes_on sets rises s d more front found next all so_far m n a =
     subst (λ x. IsSearch g s more next x) (sym a)
     (subst (λ x. IsSearch g s more x (union nat_cmp (λ x y. x) found x)) (sym n)
     (subst (λ k. IsSearch g s k (next_front sets front found k) (union nat_cmp (λ x y. x) found (next_front sets front found k))) e step))
+
+pub starts_at : (g : List (ℕ × ℕ)) (s : ℕ) (front found : List (ℕ × ℕ)) → front ≡ (s, 0) ∷ [] → found ≡ front → IsSearch g s 0 front found
+starts_at g s front found f a =
+    subst (λ x. IsSearch g s 0 front x) (sym a) (subst (λ x. IsSearch g s 0 x x) (sym f) (search_starts g s))
+
+-- a level further there is less to go
+pub less_to_go : (g : List (ℕ × ℕ)) (s d more size : ℕ) (front found : List (ℕ × ℕ)) → IsSearch g s d front found → more ≡ d + 1 → size ≡ length front → 0 < size → length g + 1 - more < length g + 1 - d
+less_to_go g s d more size front found search_is m z some =
+    let filled : 0 < length front = omega (arith, z, some) in
+    let bound = search_bound g s d front found search_is filled in
+    omega (arith, m, bound)
+
+pub ends_at : (g : List (ℕ × ℕ)) (s d size : ℕ) (front found : List (ℕ × ℕ)) → IsSearch g s d front found → size ≡ length front → size ≤ 0 → found ≡ distances g s
+ends_at g s d size front found search_is z none = search_ends g s d front found search_is (omega (arith, z, none))

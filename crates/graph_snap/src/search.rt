@@ -1,5 +1,5 @@
 //! The search by fronts: each has the vertices at one distance.
-ghost use Rattle.std.specs.Prelude.{◌≡◌, IfOk};
+ghost use Rattle.std.specs.Prelude.{◌≡◌, ◌+◌, IfOk};
 ghost use Rattle.graph_snap.specs.Edges.{AreSets, edges_of};
 ghost use Rattle.graph_snap.specs.Merging.{at_distance, neighbours_of, next_front, set_in_order};
 ghost use Rattle.graph_snap.specs.Walks.{as_reached, reach};
@@ -106,6 +106,16 @@ fn listed(alloc: Global, found: &Distances) -> Result<Vec<Reached>, NoMemory>
     Ok(list)
 }
 
+// The next distance; that there is none is want of memory, since a graph has an edge for each.
+fn further(distance: u64) -> Result<u64, NoMemory>
+    ensures { IfOk result (λ more. more ≡ distance + 1) }
+{
+    match distance.checked_add(1) {
+        Some(more) => Ok(more),
+        None => Err(NoMemory),
+    }
+}
+
 /// What walks from a vertex reach, with the least numbers of edges.
 pub(crate) fn search<R: Threads + Sync, G: Gate>(
     rt: &R,
@@ -122,7 +132,7 @@ pub(crate) fn search<R: Threads + Sync, G: Gate>(
     let mut found = front.share(alloc)?;
     let mut distance: u64 = 0;
     'levels: while front.size() > 0 {
-        distance = distance.checked_add(1).ok_or(NoMemory)?;
+        distance = further(distance)?;
         front = next_front(rt, alloc, gate, cut, vertices, &front, &found, distance)?;
         found = found.union(rt, alloc, gate, cut, &front, &First)?;
     }
