@@ -1,10 +1,11 @@
 -- A graph is the list of its edges, pairs of vertices that increase by the first vertex and then by the second.
-use Rattle.std.specs.Prelude.{ℕ, ◌==◌, List, map, length}
+use Rattle.std.specs.Prelude.{◌≡◌, ◌==◌, ◌<◌, [], ◌∷◌, ℕ, List, Some, length, map}
 use Rattle.std.specs.List.{filter, flat_map}
 use Rattle.std.specs.Map.{keys_of}
+use Rattle.std.specs.Option.{unwrap_or}
 use Rattle.std.specs.declared.cmp.Ordering.{Ordering}
 use Rattle.std.specs.Ordering.{nat_cmp, ordering_then}
-use Rattle.map_model.specs.Entries.{IsIncreasing}
+use Rattle.map_model.specs.Entries.{IsIncreasing, drop_key, lookup, set}
 use Rattle.map_model.specs.Operations.{after, build, dels, puts}
 use Rattle.graph_snap.specs.declared.edge.Edge.{Edge}
 
@@ -38,6 +39,29 @@ out_neighbours g v = map (λ e. e.1) (filter (λ e. e.0 == v) g)
 abbrev pub pairs_of : List Edge → List (ℕ × ℕ)
 pairs_of list = map (λ e. (e.from, e.to)) list
 
+-- a map from vertices to their sets of out-neighbours
+abbrev pub Sets : Type 0
+Sets = List (ℕ × List (ℕ × Unit {0}))
+
 -- the edges of a map from vertices to sets of out-neighbours
-abbrev pub edges_of : List (ℕ × List (ℕ × Unit {0})) → List (ℕ × ℕ)
+abbrev pub edges_of : Sets → List (ℕ × ℕ)
 edges_of sets = flat_map (λ s. map (λ x. (s.0, x.0)) s.1) sets
+
+-- a set has an element, and its elements increase
+pub record IsFilled (ns : List (ℕ × Unit {0})) : Type 0 where
+  pub some : 0 < length ns
+  pub increasing : IsIncreasing nat_cmp ns
+
+-- the vertices increase, and each has an out-neighbour
+pub record AreSets (sets : Sets) : Type 0 where
+  pub increasing : IsIncreasing nat_cmp sets
+  pub filled : (u : ℕ) (ns : List (ℕ × Unit {0})) → lookup nat_cmp sets u ≡ Some ns → IsFilled ns
+
+-- the set of a vertex
+abbrev pub set_at : Sets → ℕ → List (ℕ × Unit {0})
+set_at sets u = unwrap_or (lookup nat_cmp sets u) []
+
+-- the map with this set at a vertex, which is no key where the set is empty
+abbrev pub replace : Sets → ℕ → List (ℕ × Unit {0}) → Sets
+replace sets u [] = drop_key nat_cmp sets u
+replace sets u (n ∷ ns) = set nat_cmp sets u (n ∷ ns)

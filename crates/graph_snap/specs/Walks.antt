@@ -31,6 +31,9 @@ vertices g s = keys_of (build nat_cmp (elements (s ∷ flat_map (λ e. e.0 ∷ e
 abbrev pub distances : List (ℕ × ℕ) → ℕ → List (ℕ × ℕ)
 distances g s = filter_map (λ v. option_map (λ d. (v, d)) (least (walk g s v) (length g + 1))) (vertices g s)
 
--- what a search finds
+abbrev pub as_reached : List (ℕ × ℕ) → List Reached
+as_reached found = map (λ r. record { vertex = r.0; distance = r.1 }) found
+
+-- what a search from s finds
 abbrev pub reach : List (ℕ × ℕ) → ℕ → List Reached
-reach g s = map (λ r. record { vertex = r.0; distance = r.1 }) (distances g s)
+reach g s = as_reached (distances g s)

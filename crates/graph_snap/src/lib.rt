@@ -2,5 +2,12 @@
 #![tactic(auto)]
 
 mod edge;
+mod graph;
+mod neighbours;
+mod search;
+mod vertices;
 
 pub use edge::{Edge, Reached};
+pub use graph::Graph;
+pub use neighbours::Neighbours;
+pub use vertices::Vertices;

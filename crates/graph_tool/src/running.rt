@@ -3,6 +3,8 @@ ghost use Rattle.std.specs.Prelude.{◌≡◌, IfOk};
 ghost use Rattle.graph_tool.specs.Effects.{graph_after, graph_reply, no_graphs};
 ghost use Rattle.script.specs.Replies.{replies};
 
+use crate::command::graph_command;
+use crate::graphs::no_graphs;
 use aug_monoid::NoMemory;
 use fork_join::{Cut, Gate};
 use script::GraphCommand;
@@ -13,13 +15,18 @@ use std::thread::Threads;
 /// The replies to commands in order, from an empty graph and no kept ones. They depend neither on the runtime nor on the gate nor
 /// on the cut, and want of memory alone refuses.
 pub fn run_graph<R: Threads + Sync, G: Gate>(
-    _rt: &R,
-    _alloc: Global,
-    _gate: &G,
-    _cut: Cut,
-    _commands: &[GraphCommand],
+    rt: &R,
+    alloc: Global,
+    gate: &G,
+    cut: Cut,
+    commands: &[GraphCommand],
 ) -> Result<Vec<u8>, NoMemory>
-    ensures { IfOk result (λ text. text.items ≡ replies graph_reply graph_after no_graphs _commands.now) }
+    ensures { IfOk result (λ text. text.items ≡ replies graph_reply graph_after no_graphs commands.now) }
 {
-    Err(NoMemory)
+    let mut graphs = no_graphs(alloc);
+    let mut text = Vec::new(alloc);
+    for command in commands {
+        graph_command(rt, alloc, gate, cut, &mut graphs, &mut text, command)?;
+    }
+    Ok(text)
 }

@@ -1,0 +1,93 @@
+//! One command of the tool graph.
+ghost use Rattle.std.specs.Prelude.{◌≡◌, ◌++◌, ◌∷◌, [], OnOk, codes, slice_get};
+ghost use Rattle.graph_snap.specs.Walks.{reach};
+ghost use Rattle.graph_tool.specs.Effects.{graph_after, graph_reply, kept_search, reached_line, seen};
+ghost use Rattle.script.specs.Lines.{line_of};
+
+use crate::graphs::{Graphs, edges_in};
+use crate::replies::reached;
+use aug_monoid::NoMemory;
+use fork_join::{Cut, Gate};
+use graph_snap::Graph;
+use script::{GraphCommand, line};
+use std::alloc::Global;
+use std::marker::Sync;
+use std::thread::Threads;
+
+// Appends the reply to a search of a graph.
+fn search<R: Threads + Sync, G: Gate>(
+    rt: &R,
+    alloc: Global,
+    gate: &G,
+    cut: Cut,
+    text: &mut Vec<u8>,
+    graph: &Graph,
+    from: u64,
+) -> Result<(), NoMemory>
+    ensures { OnOk result (text.new.items ≡ text.old.items ++ reached_line (reach graph.now from)) }
+{
+    let found = graph.bfs(rt, alloc, gate, cut, from)?;
+    reached(alloc, text, &found)
+}
+
+// Appends the reply to a search of a kept graph.
+fn search_kept<R: Threads + Sync, G: Gate>(
+    rt: &R,
+    alloc: Global,
+    gate: &G,
+    cut: Cut,
+    text: &mut Vec<u8>,
+    kept: &[Graph],
+    number: u64,
+    from: u64,
+) -> Result<(), NoMemory>
+    ensures { OnOk result (text.new.items ≡ text.old.items ++ kept_search kept.now number from) }
+{
+    match kept.get(number as usize) {
+        Some(graph) => search(rt, alloc, gate, cut, text, graph, from),
+        None => line(text, "none", &[]),
+    }
+}
+
+/// Runs one command on graphs, and appends its reply.
+pub(crate) fn graph_command<R: Threads + Sync, G: Gate>(
+    rt: &R,
+    alloc: Global,
+    gate: &G,
+    cut: Cut,
+    graphs: &mut Graphs,
+    text: &mut Vec<u8>,
+    command: &GraphCommand,
+) -> Result<(), NoMemory>
+    ensures after { OnOk result (seen graphs.new ≡ graph_after (seen graphs.old) command.now) }
+    ensures reply { OnOk result (text.new.items ≡ text.old.items ++ graph_reply (seen graphs.old) command.now) }
+{
+    match command {
+        GraphCommand::Add { edges, .. } => {
+            let list = edges_in(alloc, edges.items())?;
+            graphs.present = graphs.present.add_edges(rt, alloc, gate, cut, &list)?;
+            line(text, "ok", &[graphs.present.edges()])
+        }
+        GraphCommand::Cut { edges, .. } => {
+            let list = edges_in(alloc, edges.items())?;
+            graphs.present = graphs.present.cut_edges(rt, alloc, gate, cut, &list)?;
+            line(text, "ok", &[graphs.present.edges()])
+        }
+        GraphCommand::Keep { .. } => {
+            let number = graphs.kept.len() as u64;
+            graphs.kept.push(graphs.present.share(alloc)?)?;
+            line(text, "kept", &[number])
+        }
+        GraphCommand::Size { .. } => {
+            line(text, "graph", &[graphs.present.vertices(), graphs.present.edges()])
+        }
+        GraphCommand::Degree { u, .. } => {
+            let degree = graphs.present.degree(alloc, *u)?;
+            line(text, "degree", &[degree])
+        }
+        GraphCommand::Now { u, .. } => search(rt, alloc, gate, cut, text, &graphs.present, *u),
+        GraphCommand::Bfs { s, u, .. } => {
+            search_kept(rt, alloc, gate, cut, text, &graphs.kept, *s, *u)
+        }
+    }
+}
