@@ -1,5 +1,5 @@
 //! Commands that ask: each appends its reply.
-ghost use Rattle.std.specs.Prelude.{◌≡◌, ◌<◌, ◌≤◌, ◌+◌, [], ◌∷◌, ◌++◌, codes, length, None, IfSome, MatchResult};
+ghost use Rattle.std.specs.Prelude.{◌≡◌, ◌<◌, ◌≤◌, ◌+◌, [], ◌∷◌, ◌++◌, codes, length, None, IfOk, IfSome, MatchResult};
 ghost use Rattle.std.specs.Ordering.{nat_cmp};
 ghost use Rattle.map_model.specs.Entries.{lookup};
 ghost use Rattle.map_model.specs.Parts.{next, prev, rank, select, slice};
@@ -66,7 +66,24 @@ fn size(registers: &[Register], m: u64, text: &mut Vec<u8>) -> Result<(), NoMemo
     line(text, "size", &[map_at(registers, m).size()])
 }
 
+// The totals of a range of keys.
 #[tactic(auto, unfolding(crate::specs::Values::range_totals))]
+fn totals_within<C: Ledger>(
+    alloc: Global,
+    registers: &[Register],
+    m: u64,
+    lo: u64,
+    hi: u64,
+    steps: &mut Steps<C>,
+) -> Result<Totals, NoMemory>
+    requires count { length registers.now ≡ 16 }
+    requires low { m < 16 }
+    ensures value { IfOk result (λ totals. totals ≡ range_totals (register (maps_of registers.now) m) lo hi) }
+    ensures cost { steps.new ≤ steps.old + fold_steps (height_of registers.now m) }
+{
+    map_at(registers, m).aug_range(alloc, &lo, &hi, steps)
+}
+
 fn sum<C: Ledger>(
     alloc: Global,
     registers: &[Register],
@@ -81,23 +98,50 @@ fn sum<C: Ledger>(
     ensures reply { MatchResult result (λ _. text.new.items ≡ text.old.items ++ totals_line (range_totals (register (maps_of registers.now) m) lo hi)) (λ _. text.new.items ≡ text.old.items) }
     ensures cost { steps.new ≤ steps.old + fold_steps (height_of registers.now m) }
 {
-    let fold = map_at(registers, m).aug_range(alloc, &lo, &hi, steps)?;
-    totals(&fold, text)
+    let within = totals_within(alloc, registers, m, lo, hi, steps)?;
+    totals(&within, text)
 }
 
+// The totals of all entries.
 #[tactic(auto, unfolding(crate::specs::Values::totals_of))]
+fn totals_at(registers: &[Register], m: u64) -> Totals
+    requires count { length registers.now ≡ 16 }
+    requires low { m < 16 }
+    ensures { result ≡ totals_of (register (maps_of registers.now) m) }
+{
+    match map_at(registers, m).aug() {
+        Some(fold) => *fold,
+        None => Totals {
+            sum: 0,
+            greatest: 0,
+        },
+    }
+}
+
 fn fold(registers: &[Register], m: u64, text: &mut Vec<u8>) -> Result<(), NoMemory>
     requires count { length registers.now ≡ 16 }
     requires low { m < 16 }
     ensures { MatchResult result (λ _. text.new.items ≡ text.old.items ++ totals_line (totals_of (register (maps_of registers.now) m))) (λ _. text.new.items ≡ text.old.items) }
 {
-    match map_at(registers, m).aug() {
-        Some(fold) => totals(fold, text),
-        None => line(text, "aug", &[0, 0]),
-    }
+    totals(&totals_at(registers, m), text)
 }
 
+// The greatest value of a range of keys.
 #[tactic(auto, unfolding(crate::specs::Values::range_totals))]
+fn greatest_within(
+    alloc: Global,
+    registers: &[Register],
+    m: u64,
+    lo: u64,
+    hi: u64,
+) -> Result<u64, NoMemory>
+    requires count { length registers.now ≡ 16 }
+    requires low { m < 16 }
+    ensures { IfOk result (λ most. most ≡ (range_totals (register (maps_of registers.now) m) lo hi).greatest) }
+{
+    map_at(registers, m).aug_project(alloc, &lo, &hi, &Greatest)
+}
+
 fn greatest(
     alloc: Global,
     registers: &[Register],
@@ -110,7 +154,7 @@ fn greatest(
     requires low { m < 16 }
     ensures { MatchResult result (λ _. text.new.items ≡ text.old.items ++ line_of (codes "max") ((range_totals (register (maps_of registers.now) m) lo hi).greatest ∷ [])) (λ _. text.new.items ≡ text.old.items) }
 {
-    let most = map_at(registers, m).aug_project(alloc, &lo, &hi, &Greatest)?;
+    let most = greatest_within(alloc, registers, m, lo, hi)?;
     line(text, "max", &[most])
 }
 
