@@ -8,5 +8,3 @@ mod running;
 
 pub use running::run_graph;
 
-#[cfg(test)]
-mod tests;
