@@ -30,11 +30,7 @@ fn docs_numbers(alloc: Global, hits: &[Hit]) -> Result<Vec<u64>, NoMemory>
 }
 
 /// Appends a line for documents that were found.
-pub(crate) fn docs_line(
-    alloc: Global,
-    text: &mut Vec<u8>,
-    hits: &[Hit],
-) -> Result<(), NoMemory>
+pub(crate) fn docs_line(alloc: Global, text: &mut Vec<u8>, hits: &[Hit]) -> Result<(), NoMemory>
     ensures { OnOk result (text.new.items ≡ text.old.items ++ line_of (codes "docs") (docs_numbers hits.now)) }
 {
     let numbers = docs_numbers(alloc, hits)?;
@@ -88,12 +84,7 @@ pub(crate) fn without<R: Threads + Sync, G: Gate>(
     index.without(rt, alloc, gate, cut, &terms[0], &terms[1])
 }
 
-pub(crate) fn top(
-    alloc: Global,
-    index: &Index,
-    k: u64,
-    named: &[u8],
-) -> Result<Vec<Hit>, NoMemory>
+pub(crate) fn top(alloc: Global, index: &Index, k: u64, named: &[u8]) -> Result<Vec<Hit>, NoMemory>
     requires { IsTerm named.now }
     ensures { IfOk result (λ hits. hits.items ≡ hits_of (top index.now k (small named.now))) }
 {
