@@ -6,6 +6,3 @@ mod running;
 mod terms;
 
 pub use running::run_index;
-
-#[cfg(test)]
-mod tests;
