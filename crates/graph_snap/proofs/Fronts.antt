@@ -169,12 +169,12 @@ module _ (sets : Sets) (rises : IsIncreasing nat_cmp sets) (s d : ℕ) (front fo
   search_goes_on = record {
     front_at = next_at;
     found_at = λ v.
-      lookup-union nat_cmp_total nat_exact (λ x y. x) found next v next_rises
-      ∙ ap₂ (united (λ x y. x)) (search_is.found_at v) (next_at v)
-      ∙ elim (least (walk g s v) (suc d)) as (λ o. united (λ x y. x) o (cond (is_none o && walk g s v (suc d)) (Some (suc d)) None) ≡ option_or o (cond (walk g s v (suc d)) (Some (suc d)) None)) [
-        | None ↦ elim (walk g s v (suc d)) as (λ b. united (λ x y. x) None (cond b (Some (suc d)) None) ≡ cond b (Some (suc d)) None) [ true ↦ refl | false ↦ refl ]
-        | Some c ↦ refl
-      ];
+        lookup-union nat_cmp_total nat_exact (λ x y. x) found next v next_rises
+        ∙ ap₂ (united (λ x y. x)) (search_is.found_at v) (next_at v)
+        ∙ elim (least (walk g s v) (suc d)) as (λ o. united (λ x y. x) o (cond (is_none o && walk g s v (suc d)) (Some (suc d)) None) ≡ option_or o (cond (walk g s v (suc d)) (Some (suc d)) None)) [
+          | None ↦ elim (walk g s v (suc d)) as (λ b. united (λ x y. x) None (cond b (Some (suc d)) None) ≡ cond b (Some (suc d)) None) [ true ↦ refl | false ↦ refl ]
+          | Some c ↦ refl
+        ];
     found_rises = IsIncreasing-union nat_cmp_total (λ x y. x) found next search_is.found_rises;
   }
 

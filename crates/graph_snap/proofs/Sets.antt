@@ -270,15 +270,20 @@ module _ (sets : Sets) (u : ℕ) where
     where
       swap : (a b n m : ℕ) → a + (n + b) + m ≡ a + (m + b) + n
       swap a b n m = omega arith
+
       cut_edges : (l r : Sets) → length (edges_of (l ++ r)) ≡ length (edges_of l) + length (edges_of r)
       cut_edges l r = ap length (flat_map-append (λ (s : ℕ × List (ℕ × Unit {0})). fan s.0 s.1) l r) ∙ length-append (edges_of l) (edges_of r)
+
       with_fan : (ns : List (ℕ × Unit {0})) → length (edges_of (below nat_cmp sets u ++ (u, ns) ∷ above nat_cmp sets u)) ≡ length (edges_of (below nat_cmp sets u)) + (length ns + length (edges_of (above nat_cmp sets u)))
       with_fan ns = cut_edges (below nat_cmp sets u) ((u, ns) ∷ above nat_cmp sets u) ∙ ap (λ n. length (edges_of (below nat_cmp sets u)) + n) (length-append (fan u ns) (edges_of (above nat_cmp sets u)) ∙ ap (λ n. n + length (edges_of (above nat_cmp sets u))) (length-map ns (λ x. (u, x.0))))
+
       without_fan : length (edges_of (below nat_cmp sets u ++ above nat_cmp sets u)) ≡ length (edges_of (below nat_cmp sets u)) + (0 + length (edges_of (above nat_cmp sets u)))
       without_fan = cut_edges (below nat_cmp sets u) (above nat_cmp sets u) ∙ ap (λ n. length (edges_of (below nat_cmp sets u)) + n) (omega arith)
+
       length_new : (ns : List (ℕ × Unit {0})) → length (edges_of (replace sets u ns)) ≡ length (edges_of (below nat_cmp sets u)) + (length ns + length (edges_of (above nat_cmp sets u)))
       length_new [] = ap (λ m. length (edges_of m)) (drop_key-split nat_cmp_total nat_exact sets u are.increasing) ∙ without_fan
       length_new (n ∷ ns) = with_fan (n ∷ ns)
+
       length_old : (o : Option (List (ℕ × Unit {0}))) → lookup nat_cmp sets u ≡ o → length (edges_of (below nat_cmp sets u)) + (length (unwrap_or o []) + length (edges_of (above nat_cmp sets u))) ≡ length (edges_of sets)
       length_old None is = sym (ap (λ m. length (edges_of m)) (split_absent nat_cmp_total nat_exact sets u are.increasing is) ∙ without_fan)
       length_old (Some ns) is = sym (ap (λ m. length (edges_of m)) (split_found nat_cmp_total nat_exact sets u ns are.increasing is) ∙ with_fan ns)

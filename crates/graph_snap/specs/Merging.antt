@@ -44,13 +44,13 @@ merged_monoid = record {
   left_unit = λ a s. nil-union nat_cmp_total nat_exact (λ x y. x) a s;
   right_unit = λ a s. refl;
   assoc = λ a b c s t r.
-    let ab = IsIncreasing-union nat_cmp_total (λ (x y : Unit {0}). x) a b s in
-    let bc = IsIncreasing-union nat_cmp_total (λ (x y : Unit {0}). x) b c t in
-    equal_lookups nat_cmp_total nat_exact (merged (merged a b) c) (merged a (merged b c)) (IsIncreasing-union nat_cmp_total (λ x y. x) (merged a b) c ab) (IsIncreasing-union nat_cmp_total (λ x y. x) a (merged b c) s) (λ q.
-    lookup-union nat_cmp_total nat_exact (λ x y. x) (merged a b) c q r
-    ∙ ap (λ o. united (λ x y. x) o (lookup nat_cmp c q)) (lookup-union nat_cmp_total nat_exact (λ x y. x) a b q t)
-    ∙ united_assoc (lookup nat_cmp a q) (lookup nat_cmp b q) (lookup nat_cmp c q)
-    ∙ sym (lookup-union nat_cmp_total nat_exact (λ x y. x) a (merged b c) q bc ∙ ap (united (λ x y. x) (lookup nat_cmp a q)) (lookup-union nat_cmp_total nat_exact (λ x y. x) b c q r)));
+      let ab = IsIncreasing-union nat_cmp_total (λ (x y : Unit {0}). x) a b s in
+      let bc = IsIncreasing-union nat_cmp_total (λ (x y : Unit {0}). x) b c t in
+      equal_lookups nat_cmp_total nat_exact (merged (merged a b) c) (merged a (merged b c)) (IsIncreasing-union nat_cmp_total (λ x y. x) (merged a b) c ab) (IsIncreasing-union nat_cmp_total (λ x y. x) a (merged b c) s) (λ q.
+      lookup-union nat_cmp_total nat_exact (λ x y. x) (merged a b) c q r
+      ∙ ap (λ o. united (λ x y. x) o (lookup nat_cmp c q)) (lookup-union nat_cmp_total nat_exact (λ x y. x) a b q t)
+      ∙ united_assoc (lookup nat_cmp a q) (lookup nat_cmp b q) (lookup nat_cmp c q)
+      ∙ sym (lookup-union nat_cmp_total nat_exact (λ x y. x) a (merged b c) q bc ∙ ap (united (λ x y. x) (lookup nat_cmp a q)) (lookup-union nat_cmp_total nat_exact (λ x y. x) b c q r)));
 }
 
 -- vertices with one distance

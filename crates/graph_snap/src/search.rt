@@ -19,11 +19,7 @@ type Distances = CodedMap<Nothing<u64, u64>>;
 
 // The set of a vertex, which is in order.
 #[tactic(auto, using(crate::proofs::Ordered::set_is_ordered))]
-fn set_in_order(
-    alloc: Global,
-    vertices: &Vertices,
-    vertex: u64,
-) -> Result<Neighbours, NoMemory>
+fn set_in_order(alloc: Global, vertices: &Vertices, vertex: u64) -> Result<Neighbours, NoMemory>
     ensures { IfOk result (λ set. set ≡ set_in_order vertices.now.entries vertex) }
 {
     let set = set_at(alloc, vertices, vertex)?;
@@ -51,10 +47,7 @@ fn neighbours_of(
 fn pairs_at(alloc: Global, near: &[(u64, ())], distance: u64) -> Result<Vec<(u64, u64)>, NoMemory>
     ensures { IfOk result (λ pairs. pairs.items ≡ at_distance distance near.now) }
 {
-    let pairs = near
-        .iter()
-        .map(|entry| (entry.0, distance))
-        .collect(alloc)?;
+    let pairs = near.iter().map(|entry| (entry.0, distance)).collect(alloc)?;
     Ok(pairs)
 }
 

@@ -79,7 +79,11 @@ pub(crate) fn graph_command<R: Threads + Sync, G: Gate>(
             line(text, "kept", &[number])
         }
         GraphCommand::Size { .. } => {
-            line(text, "graph", &[graphs.present.vertices(), graphs.present.edges()])
+            line(
+                text,
+                "graph",
+                &[graphs.present.vertices(), graphs.present.edges()],
+            )
         }
         GraphCommand::Degree { u, .. } => {
             let degree = graphs.present.degree(alloc, *u)?;

@@ -8,3 +8,5 @@ mod running;
 
 pub use running::run_graph;
 
+#[cfg(test)]
+mod tests;

@@ -23,11 +23,7 @@ fn counted_numbers(alloc: Global, found: &[Reached]) -> Result<Vec<u64>, NoMemor
 }
 
 /// Appends the reply to a search.
-pub(crate) fn reached(
-    alloc: Global,
-    text: &mut Vec<u8>,
-    found: &[Reached],
-) -> Result<(), NoMemory>
+pub(crate) fn reached(alloc: Global, text: &mut Vec<u8>, found: &[Reached]) -> Result<(), NoMemory>
     ensures { OnOk result (text.new.items ≡ text.old.items ++ reached_line found.now) }
 {
     let numbers = counted_numbers(alloc, found)?;

@@ -8,4 +8,5 @@ overflow_sub-edges c = let h = set_within c.args.vertices.now.entries c.args.fro
 pub invariant_of-result : goal.invariant_of-result
 invariant_of-result c = (
   replaced_sets c.args.vertices.now.entries c.in_ok-vertices.vertices.entries c.args.from c.args.set c.in_ok-vertices.ensures c.requires.sets c.size-size.ensures.increasing,
-  replaced_counts c.args.vertices.now.entries c.in_ok-vertices.vertices.entries c.args.from c.args.set c.in_ok-vertices.ensures c.requires.sets c.args.edges c.args.old c.size-size.result c.in-Some.edges c.requires.edges c.requires.old c.size-size.ensures.value (c.in-Some.ensures.1))
+  replaced_counts c.args.vertices.now.entries c.in_ok-vertices.vertices.entries c.args.from c.args.set c.in_ok-vertices.ensures c.requires.sets c.args.edges c.args.old c.size-size.result c.in-Some.edges c.requires.edges c.requires.old c.size-size.ensures.value (c.in-Some.ensures.1),
+)
