@@ -7,3 +7,6 @@ mod replies;
 mod running;
 
 pub use running::run_graph;
+
+#[cfg(test)]
+mod tests;
