@@ -34,15 +34,26 @@ fn a_kept_graph_stays_as_it_was(rt: HostRuntime) -> Result<(), Fail> {
         add(alloc, &[(1, 2), (2, 3), (1, 3)])?,
         GraphCommand::Keep { place: 0 },
         cut(alloc, &[(1, 3)])?,
-        GraphCommand::Bfs { place: 0, s: 0, u: 1 },
+        GraphCommand::Bfs {
+            place: 0,
+            s: 0,
+            u: 1,
+        },
         GraphCommand::Now { place: 0, u: 1 },
         GraphCommand::Now { place: 0, u: 7 },
-        GraphCommand::Bfs { place: 0, s: 1, u: 1 },
+        GraphCommand::Bfs {
+            place: 0,
+            s: 1,
+            u: 1,
+        },
         GraphCommand::Degree { place: 0, u: 1 },
         GraphCommand::Size { place: 0 },
     ];
     let text = run_graph(&rt, alloc, &FreeGate, Cut::new(2, 1), &commands)?;
-    assert_eq!(rt; text.as_slice(), b"ok,3\nkept,0\nok,2\nbfs,3,1,0,2,1,3,1\nbfs,3,1,0,2,1,3,2\nbfs,1,7,0\nnone\ndegree,1\ngraph,2,2\n".as_slice());
+    assert_eq!(rt;
+        text.as_slice(),
+        b"ok,3\nkept,0\nok,2\nbfs,3,1,0,2,1,3,1\nbfs,3,1,0,2,1,3,2\nbfs,1,7,0\nnone\ndegree,1\ngraph,2,2\n".as_slice()
+    );
     Ok(())
 }
 
@@ -60,6 +71,9 @@ fn loops_and_edges_that_are_absent(rt: HostRuntime) -> Result<(), Fail> {
         GraphCommand::Now { place: 0, u: 6 },
     ];
     let text = run_graph(&rt, alloc, &FreeGate, Cut::new(2, 1), &commands)?;
-    assert_eq!(rt; text.as_slice(), b"graph,0,0\nok,0\nok,3\nbfs,2,5,0,6,1\nok,2\ngraph,1,2\ndegree,0\nbfs,1,6,0\n".as_slice());
+    assert_eq!(rt;
+        text.as_slice(),
+        b"graph,0,0\nok,0\nok,3\nbfs,2,5,0,6,1\nok,2\ngraph,1,2\ndegree,0\nbfs,1,6,0\n".as_slice()
+    );
     Ok(())
 }
