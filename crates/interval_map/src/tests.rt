@@ -76,17 +76,32 @@ fn the_intervals_that_meet_a_range(rt: HostRuntime) -> Result<(), Fail> {
     Ok(())
 }
 
+/// The sizes of a set without an interval, of that without one that it hasn't, of the set itself and of its map.
+fn sizes_around_a_removal(alloc: Global) -> Result<[u64; 4], NoMemory> {
+    let intervals = set_of(alloc, &ENDS)?;
+    let smaller = intervals.del(alloc, 3, 3)?;
+    let same = smaller.del(alloc, 3, 4)?;
+    Ok([
+        smaller.size(),
+        same.size(),
+        intervals.size(),
+        intervals.map().size(),
+    ])
+}
+
+/// What a share of a set answers of the number 3.
+fn hits_of_a_share(alloc: Global) -> Result<Vec<Pair64>, NoMemory> {
+    set_of(alloc, &ENDS)?.share(alloc)?.stab(alloc, 3)
+}
+
 #[test]
 fn a_removal_leaves_the_set_and_its_share(rt: HostRuntime) -> Result<(), Fail> {
-    let alloc = rt.alloc();
-    let intervals = set_of(alloc, &ENDS)?;
-    let shared = intervals.share(alloc)?;
-    let smaller = intervals.del(alloc, 3, 3)?;
-    assert_eq!(rt; smaller.size(), 5);
-    assert_eq!(rt; smaller.del(alloc, 3, 4)?.size(), 5);
-    assert_eq!(rt; intervals.size(), 6);
-    assert_eq!(rt; shared.map().size(), 6);
-    let hits = shared.stab(alloc, 3)?;
+    let [smaller, same, whole, lent] = sizes_around_a_removal(rt.alloc())?;
+    assert_eq!(rt; smaller, 5);
+    assert_eq!(rt; same, 5);
+    assert_eq!(rt; whole, 6);
+    assert_eq!(rt; lent, 6);
+    let hits = hits_of_a_share(rt.alloc())?;
     assert_hits(&rt, &hits, &[(2, 3), (3, 3), (3, 9)]);
     Ok(())
 }
