@@ -1,7 +1,6 @@
 //! Points in the plane, with sums and lists that were reckoned by hand.
-use crate::{Places, Point, Points, Rect, Rows, Total};
-use aug_map::{MapOver, PlainMap};
-use aug_monoid::{Augment, NoMemory, Pair64, Share, SumMax};
+use crate::{Places, Point, Points, Rect, Total};
+use aug_monoid::{Augment, NoMemory, Pair64, Share};
 use fork_join::{Cut, FreeGate};
 use std::alloc::Global;
 use std::marker::Sync;
@@ -136,12 +135,14 @@ fn a_rectangle_of_a_square_of_10000_points(rt: HostRuntime) -> Result<(), Fail> 
     Ok(())
 }
 
-fn rows_of_one(alloc: Global) -> Result<Rows, NoMemory> {
+/// The row of a point, from a share of its rows.
+fn shared_row(alloc: Global) -> Result<Option<(Pair64, u64)>, NoMemory> {
     let place = Pair64 {
         first: 4,
         second: 7,
     };
-    Places::base(&place, &8, alloc)
+    let rows = Places::base(&place, &8, alloc)?.share(alloc)?;
+    rows.map().select(alloc, 0)
 }
 
 #[test]
@@ -149,14 +150,10 @@ fn shares_are_the_same(rt: HostRuntime) -> Result<(), Fail> {
     let alloc = rt.alloc();
     let points = five_points(&rt, alloc)?.share(alloc)?;
     assert_sum(&rt, alloc, &points, rect(0, 9, 0, 9), 150, 5)?;
-    let rows = rows_of_one(alloc)?.share(alloc)?;
-    let row = (
-        Pair64 {
-            first: 7,
-            second: 4,
-        },
-        8,
-    );
-    assert_eq!(rt; rows.map().to_vec(alloc)?.as_slice(), [row].as_slice());
+    let row = Pair64 {
+        first: 7,
+        second: 4,
+    };
+    assert_eq!(rt; shared_row(alloc)?, Some((row, 8)));
     Ok(())
 }
