@@ -17,6 +17,3 @@ pub use hit::Hit;
 pub use index::{Index, Lists};
 pub use postings::{Postings, Weights};
 pub use term::{Term, TermFault};
-
-#[cfg(test)]
-mod tests;
