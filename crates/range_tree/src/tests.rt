@@ -146,14 +146,19 @@ fn shared_row(alloc: Global) -> Result<Option<(Pair64, u64)>, NoMemory> {
 }
 
 #[test]
-fn shares_are_the_same(rt: HostRuntime) -> Result<(), Fail> {
+fn a_share_of_points_has_their_sum(rt: HostRuntime) -> Result<(), Fail> {
     let alloc = rt.alloc();
     let points = five_points(&rt, alloc)?.share(alloc)?;
     assert_sum(&rt, alloc, &points, rect(0, 9, 0, 9), 150, 5)?;
+    Ok(())
+}
+
+#[test]
+fn a_share_of_rows_has_their_point(rt: HostRuntime) -> Result<(), Fail> {
     let row = Pair64 {
         first: 7,
         second: 4,
     };
-    assert_eq!(rt; shared_row(alloc)?, Some((row, 8)));
+    assert_eq!(rt; shared_row(rt.alloc())?, Some((row, 8)));
     Ok(())
 }
