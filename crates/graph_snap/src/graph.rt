@@ -179,7 +179,7 @@ impl Graph {
     }
 
     /// The vertices that walks from `from` reach, in order, each with the least number of edges of such a walk; `from` itself is at
-    /// 0. It takes one union of sets of out-neighbours for each distance.
+    /// 0. It merges the sets of out-neighbours of the vertices at each distance.
     pub fn bfs<R: Threads + Sync, G: Gate>(
         &self,
         rt: &R,
