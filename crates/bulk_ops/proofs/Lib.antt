@@ -4,4 +4,4 @@ pub mod Filtered
 pub mod Batches
 pub mod Planted
 pub mod Slices
-pub mod Few
+pub mod NodeSides

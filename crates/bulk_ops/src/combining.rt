@@ -15,6 +15,7 @@ use crate::small::{FEW_BLOCKS, SLICED_BLOCKS, entries_of, kept_or_none, tree_of}
 use crate::uncounted::split_at;
 use aug_monoid::{Augment, Key, Leaf, NoMemory, Share, SyncAugment};
 use fork_join::{Cut, Divide, Gate, Opened, divide};
+use join_core::Part;
 use std::alloc::Global;
 use std::marker::{Send, Sync};
 use std::thread::Threads;
@@ -142,10 +143,10 @@ fn combine_unlike<
 {
     if a.size() >= b.size() {
         let few = entries_of(alloc, b)?;
-        combine_few(alloc, how, a, &few)
+        combine_few(alloc, how, Part { tree: a }, &few)
     } else {
         let few = entries_of(alloc, a)?;
-        combine_few(alloc, &Exchanged { how }, b, &few)
+        combine_few(alloc, &Exchanged { how }, Part { tree: b }, &few)
     }
 }
 
@@ -235,25 +236,35 @@ fn cut_second<A: Augment, L: Leaf<A::Key, A::Val>, S: BlockSize, W: Combination<
     }
 }
 
+/// Two trees that are combined on one thread.
+#[derive(Drop)]
+pub(crate) struct Sides<A: Augment, L: Leaf<A::Key, A::Val>, S: BlockSize> {
+    pub(crate) first: TreeOver<A, L, S>,
+    pub(crate) second: TreeOver<A, L, S>,
+}
+
 /// The combination of two trees on one thread.
 pub(crate) fn combine_alone<
     A: Augment,
     L: Leaf<A::Key, A::Val>,
     S: BlockSize,
     W: Combination<A::Key, A::Val>,
->(
-    alloc: Global,
-    how: &W,
-    a: TreeOver<A, L, S>,
-    b: TreeOver<A, L, S>,
-) -> Result<TreeOver<A, L, S>, NoMemory>
-    ensures { IfOk result (IsAnswer (combined_entries (W.combined how.now)) (a, b)) }
+>(alloc: Global, how: &W, sides: Sides<A, L, S>) -> Result<TreeOver<A, L, S>, NoMemory>
+    ensures { IfOk result (IsAnswer (combined_entries (W.combined how.now)) (sides.first, sides.second)) }
 {
-    match open_sides(alloc, how, a, b)? {
+    match open_sides(alloc, how, sides.first, sides.second)? {
         Opened::Done(tree) => Ok(tree),
-        Opened::Split(front, middle, back) => {
-            let left = combine_alone(alloc, how, front.0, front.1)?;
-            let right = combine_alone(alloc, how, back.0, back.1)?;
+        Opened::Split((near, below), middle, (far, above)) => {
+            let front = Sides {
+                first: near,
+                second: below,
+            };
+            let back = Sides {
+                first: far,
+                second: above,
+            };
+            let left = combine_alone(alloc, how, front)?;
+            let right = combine_alone(alloc, how, back)?;
             join_around(alloc, left, middle, right)
         }
     }

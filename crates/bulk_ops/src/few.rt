@@ -7,7 +7,8 @@ use crate::combining::keep_entry;
 use crate::middle::join_around;
 use crate::slicing::cut_slice;
 use crate::small::{entries_of, kept_or_none, tree_of};
-use aug_monoid::{Augment, Leaf, NoMemory, Share};
+use aug_monoid::{Augment, Leaf, NoMemory};
+use join_core::{Part, another_owner};
 use std::alloc::Global;
 use tree_base::{BlockSize, LookOver, TreeOver};
 
@@ -37,17 +38,17 @@ pub(crate) fn combine_few<
 >(
     alloc: Global,
     how: &W,
-    tree: &TreeOver<A, L, S>,
+    part: Part<'_, A, L, S>,
     few: &[(A::Key, A::Val)],
 ) -> Result<TreeOver<A, L, S>, NoMemory>
     requires { IsIncreasing A.Key.cmp few.now }
-    ensures { IfOk result (λ out. out.entries ≡ W.combined how.now tree.now.entries few.now) }
+    ensures { IfOk result (λ out. out.entries ≡ W.combined how.now part.entry.tree.now.entries few.now) }
 {
     if few.is_empty() {
-        let whole = tree.share(alloc)?;
+        let whole = another_owner(alloc, part.tree)?;
         return Ok(kept_or_none(whole, how.keeps_first()));
     }
-    match tree.look() {
+    match part.tree.look() {
         LookOver::Node {
             left,
             key,
@@ -55,11 +56,11 @@ pub(crate) fn combine_few<
             right,
         } => {
             let parts = cut_slice(few, key);
-            let front = combine_few(alloc, how, left, parts.below)?;
+            let front = combine_few(alloc, how, Part { tree: left }, parts.below)?;
             let middle = keep_entry(alloc, how, key, Some(val), parts.found)?;
-            let back = combine_few(alloc, how, right, parts.above)?;
+            let back = combine_few(alloc, how, Part { tree: right }, parts.above)?;
             join_around(alloc, front, middle, back)
         }
-        _ => combine_lists(alloc, how, tree, few),
+        _ => combine_lists(alloc, how, part.tree, few),
     }
 }

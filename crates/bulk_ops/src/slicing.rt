@@ -22,7 +22,7 @@ fn place_in<K: Key, V>(entries: &[(K, V)], key: &K) -> usize
 {
     entries.partition_point(
         |entry: &(K, V)| -> bool
-            ensures { result ≡ is_lt (K.cmp entry.now.0 key.now) }
+            ensures { result ≡ is_lt (K.cmp entry.now.0 key.entry.now) }
         { entry.0.cmp(key).is_lt() },
     )
 }
@@ -31,17 +31,27 @@ fn place_in<K: Key, V>(entries: &[(K, V)], key: &K) -> usize
 pub(crate) fn cut_slice<'a, K: Key, V>(entries: &'a [(K, V)], key: &K) -> SliceParts<'a, K, V>
     requires { IsIncreasing K.cmp entries.now }
     ensures below { result.below.now ≡ below K.cmp entries.now key.now }
-    ensures found { option_map (λ v. v.now) result.found.entry ≡ lookup K.cmp entries.now key.now }
+    ensures found { option_map (λ v. v.now) result.found ≡ lookup K.cmp entries.now key.now }
     ensures above { result.above.now ≡ above K.cmp entries.now key.now }
 {
     let (below, rest) = entries.split_at(place_in(entries, key));
     match rest.split_first() {
-        Some((entry, above)) if entry.0.cmp(key).is_eq() => SliceParts {
-            below,
-            found: Some(&entry.1),
-            above,
-        },
-        _ => SliceParts {
+        Some(((other, val), above)) => {
+            if other.cmp(key).is_eq() {
+                SliceParts {
+                    below,
+                    found: Some(val),
+                    above,
+                }
+            } else {
+                SliceParts {
+                    below,
+                    found: None,
+                    above: rest,
+                }
+            }
+        }
+        None => SliceParts {
             below,
             found: None,
             above: rest,

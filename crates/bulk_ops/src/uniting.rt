@@ -5,7 +5,7 @@ ghost use Rattle.map_model.proofs.Unions.{united};
 ghost use Rattle.bulk_ops.specs.Laws.{union_laws};
 
 use crate::combination::Combination;
-use crate::combining::{combine, combine_alone};
+use crate::combining::{Sides, combine, combine_alone};
 use aug_monoid::{Augment, Key, Leaf, NoMemory, Resolve, Share, SyncAugment};
 use entry_lists::union_of;
 use fork_join::{Cut, Gate};
@@ -93,7 +93,9 @@ pub fn merge<A: Augment, L: Leaf<A::Key, A::Val>, S: BlockSize, H: Resolve<A::Va
 ) -> Result<TreeOver<A, L, S>, NoMemory>
     ensures { IfOk result (λ tree. tree.entries ≡ union_of_entries A.Key.cmp (H.resolved how.now) a.now.entries b.now.entries) }
 {
-    let first = a.share(alloc)?;
-    let second = b.share(alloc)?;
-    combine_alone(alloc, &Uniting { how }, first, second)
+    let sides = Sides {
+        first: a.share(alloc)?,
+        second: b.share(alloc)?,
+    };
+    combine_alone(alloc, &Uniting { how }, sides)
 }
