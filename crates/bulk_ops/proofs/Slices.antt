@@ -59,7 +59,7 @@ none_at (x ∷ m) zero is = absurd (let h : x ∷ m ≡ [] = is in cc)
 none_at (x ∷ m) (suc i) is = none_at m i is
 
 module _ {K V : Type 0} {order : K → K → Ordering} (total : IsTotalOrder order) (q : K) (m : List (K × V)) (s : IsIncreasing order m) (i : ℕ) (at : i ≡ rank order m q) where
-  value_if : Option (K × V) → Option V
+  abbrev value_if : Option (K × V) → Option V
   value_if o = option_and_then (λ e. cond (is_eq (order e.0 q)) (Some e.1) None) o
 
   looked_up : lookup order m q ≡ value_if (slice_get m i)

@@ -254,14 +254,14 @@ pub(crate) fn combine_alone<
 {
     match open_sides(alloc, how, sides.first, sides.second)? {
         Opened::Done(tree) => Ok(tree),
-        Opened::Split((near, below), middle, (far, above)) => {
+        Opened::Split(lower, middle, upper) => {
             let front = Sides {
-                first: near,
-                second: below,
+                first: lower.0,
+                second: lower.1,
             };
             let back = Sides {
-                first: far,
-                second: above,
+                first: upper.0,
+                second: upper.1,
             };
             let left = combine_alone(alloc, how, front)?;
             let right = combine_alone(alloc, how, back)?;

@@ -19,7 +19,7 @@ fn combine_lists<A: Augment, L: Leaf<A::Key, A::Val>, S: BlockSize, W: Combinati
     tree: &TreeOver<A, L, S>,
     few: &[(A::Key, A::Val)],
 ) -> Result<TreeOver<A, L, S>, NoMemory>
-    requires { IsIncreasing A.Key.cmp few.now }
+    requires increasing { IsIncreasing A.Key.cmp few.now }
     ensures { IfOk result (λ out. out.entries ≡ W.combined how.now tree.now.entries few.now) }
 {
     let _least = tree.block_size();
@@ -41,7 +41,7 @@ pub(crate) fn combine_few<
     part: Part<'_, A, L, S>,
     few: &[(A::Key, A::Val)],
 ) -> Result<TreeOver<A, L, S>, NoMemory>
-    requires { IsIncreasing A.Key.cmp few.now }
+    requires increasing { IsIncreasing A.Key.cmp few.now }
     ensures { IfOk result (λ out. out.entries ≡ W.combined how.now part.entry.tree.now.entries few.now) }
 {
     if few.is_empty() {
