@@ -116,7 +116,7 @@ impl<A: Augment, L: Leaf<A::Key, A::Val>, S: BlockSize> MapOver<A, L, S> {
     ) -> Result<MapOver<A, L, S>, NoMemory>
         ensures { IfOk result (λ map. map.entries ≡ union A.Key.cmp (R.resolved how.now) a.now.entries b.now.entries) }
     {
-        let tree = tree_split::merge(alloc, &a.tree, &b.tree, how)?;
+        let tree = bulk_ops::merge(alloc, &a.tree, &b.tree, how)?;
         Ok(MapOver { tree })
     }
 }

@@ -3,3 +3,5 @@ pub mod Removals
 pub mod Filtered
 pub mod Batches
 pub mod Planted
+pub mod Slices
+pub mod NodeSides

@@ -13,7 +13,7 @@ entry_at k o = option_map (λ v. (k, v)) o
 -- `combined` splits at an entry of either map, with what `kept` makes of what the two maps have there; `first` and `second` say whether a map alone stays
 pub record IsCombination {K V : Type 0} (order : K → K → Ordering) (combined : List (K × V) → List (K × V) → List (K × V)) (kept : Option V → Option V → Option V) (first second : Bool) : Type 0 where
   pub increases : (a b : List (K × V)) → IsIncreasing order a → IsIncreasing order b → IsIncreasing order (combined a b)
-  pub first_alone : (a : List (K × V)) → combined a [] ≡ (if first then a else [])
+  pub first_alone : (a : List (K × V)) → IsIncreasing order a → combined a [] ≡ (if first then a else [])
   pub second_alone : (b : List (K × V)) → IsIncreasing order b → combined [] b ≡ (if second then b else [])
   pub split_first : (l : List (K × V)) (k : K) (v : V) (r b : List (K × V)) → IsIncreasing order (l ++ (k, v) ∷ r) → IsIncreasing order b → combined (l ++ (k, v) ∷ r) b ≡ combined l (below order b k) ++ cons_option (entry_at k (kept (Some v) (lookup order b k))) (combined r (above order b k))
   pub split_second : (a l : List (K × V)) (k : K) (w : V) (r : List (K × V)) → IsIncreasing order a → IsIncreasing order (l ++ (k, w) ∷ r) → combined a (l ++ (k, w) ∷ r) ≡ combined (below order a k) l ++ cons_option (entry_at k (kept (lookup order a k) (Some w))) (combined (above order a k) r)

@@ -1,5 +1,5 @@
 -- Union, intersection and difference are combinations.
-use Rattle.std.proofs.Common.{◌≡◌, true, false, cond, List, [], ◌∷◌, ◌++◌, Some, None, is_none, refl, ◌∙◌}
+use Rattle.std.proofs.Common.{◌≡◌, Bool, Option, true, false, cond, List, [], ◌∷◌, ◌++◌, Some, None, is_none, refl, ◌∙◌}
 use Rattle.std.specs.List.{cons_option}
 use Rattle.std.specs.Option.{option_map, option_map_or}
 use Rattle.std.specs.declared.cmp.Ordering.{Ordering}
@@ -23,7 +23,7 @@ module _ {K V : Type 0} {order : K → K → Ordering} (total : IsTotalOrder ord
   pub union_laws : (f : V → V → V) → IsCombination order (union order f) (united f) true true
   union_laws f = record {
     increases = λ a b s t. IsIncreasing-union total f a b s;
-    first_alone = λ a. refl;
+    first_alone = λ a s. refl;
     second_alone = λ b t. nil-union total exact f b t;
     split_first = λ l k v r b s t.
         union-split_first total exact f l k v r b s t
@@ -34,7 +34,7 @@ module _ {K V : Type 0} {order : K → K → Ordering} (total : IsTotalOrder ord
   pub intersection_laws : (f : V → V → V) → IsCombination order (intersect order f) (met f) false false
   intersection_laws f = record {
     increases = λ a b s t. IsIncreasing-intersect order f a b s;
-    first_alone = λ a. intersect-nil order f a;
+    first_alone = λ a s. intersect-nil order f a;
     second_alone = λ b t. refl;
     split_first = λ l k v r b s t.
         intersect-split_first total exact f l k v r b s
@@ -47,10 +47,21 @@ module _ {K V : Type 0} {order : K → K → Ordering} (total : IsTotalOrder ord
   pub difference_laws : IsCombination {V = V} order (difference order) unless true false
   difference_laws = record {
     increases = λ a b s t. IsIncreasing-difference order a b s;
-    first_alone = λ a. filter-all_keys (λ k. true) a (AllKeys-all (λ k. true ≡ true) (λ k. refl) a);
+    first_alone = λ a s. filter-all_keys (λ k. true) a (AllKeys-all (λ k. true ≡ true) (λ k. refl) a);
     second_alone = λ b t. refl;
     split_first = λ l k v r b s t.
         difference-split_first total exact l k v r b s
         ∙ elim (lookup order b k) as (λ o. difference order l (below order b k) ++ cond (is_none o) ((k, v) ∷ difference order r (above order b k)) (difference order r (above order b k)) ≡ difference order l (below order b k) ++ cons_option (entry_at k (unless (Some v) o)) (difference order r (above order b k))) [ None ↦ refl | Some w ↦ refl ];
     split_second = λ a l k w r s t. difference-split_second total exact a l k w r s t;
+  }
+
+-- a combination of two maps in exchanged order
+module _ {K V : Type 0} {order : K → K → Ordering} {combined : List (K × V) → List (K × V) → List (K × V)} {kept : Option V → Option V → Option V} {first second : Bool} (laws : IsCombination order combined kept first second) where
+  pub exchanged_laws : IsCombination order (λ a b. combined b a) (λ o p. kept p o) second first
+  exchanged_laws = record {
+    increases = λ a b s t. laws.increases b a t s;
+    first_alone = λ a s. laws.second_alone a s;
+    second_alone = λ b t. laws.first_alone b t;
+    split_first = λ l k v r b s t. laws.split_second b l k v r t s;
+    split_second = λ a l k w r s t. laws.split_first l k w r a t s;
   }

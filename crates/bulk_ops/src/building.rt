@@ -65,7 +65,7 @@ impl<'a, A: Augment, L: Leaf<A::Key, A::Val>, S: BlockSize> Divide<
         middle: Option<(A::Key, A::Val)>,
         right: TreeOver<A, L, S>,
     ) -> Result<TreeOver<A, L, S>, NoMemory> {
-        join_around::<A, L, S>(alloc, &left, middle, &right)
+        join_around::<A, L, S>(alloc, left, middle, right)
     }
 }
 

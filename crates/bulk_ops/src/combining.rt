@@ -8,11 +8,14 @@ ghost use Rattle.bulk_ops.specs.Answers.{IsAnswer, IsPutTogether};
 ghost use Rattle.bulk_ops.specs.Combination.{combined_entries, entry_count};
 
 use crate::combination::Combination;
+use crate::exchanged::Exchanged;
+use crate::few::combine_few;
 use crate::middle::join_around;
-use crate::small::{SLICED_BLOCKS, entries_of, kept_or_none, tree_of};
+use crate::small::{FEW_BLOCKS, SLICED_BLOCKS, entries_of, kept_or_none, tree_of};
 use crate::uncounted::split_at;
 use aug_monoid::{Augment, Key, Leaf, NoMemory, Share, SyncAugment};
 use fork_join::{Cut, Divide, Gate, Opened, divide};
+use join_core::Part;
 use std::alloc::Global;
 use std::marker::{Send, Sync};
 use std::thread::Threads;
@@ -63,11 +66,12 @@ impl<
         middle: Option<(A::Key, A::Val)>,
         right: TreeOver<A, L, S>,
     ) -> Result<TreeOver<A, L, S>, NoMemory> {
-        join_around::<A, L, S>(alloc, &left, middle, &right)
+        join_around::<A, L, S>(alloc, left, middle, right)
     }
 }
 
-/// Two trees of which one is empty, which are small and of like sizes, or which are cut at the root of the greater one.
+/// Two trees of which one is empty, which are small and of like sizes, of which one has few entries, or which are cut at the root
+/// of the greater one.
 fn open_sides<A: Augment, L: Leaf<A::Key, A::Val>, S: BlockSize, W: Combination<A::Key, A::Val>>(
     alloc: Global,
     how: &W,
@@ -92,6 +96,9 @@ fn open_sides<A: Augment, L: Leaf<A::Key, A::Val>, S: BlockSize, W: Combination<
     let alike = both / 8 <= first.min(second);
     if few || (alike && both <= SLICED_BLOCKS * a.block_size()) {
         return Ok(Opened::Done(combine_small(alloc, how, &a, &b)?));
+    }
+    if first.min(second) <= FEW_BLOCKS * a.block_size() {
+        return Ok(Opened::Done(combine_unlike(alloc, how, &a, &b)?));
     }
     if first >= second {
         cut_first(alloc, how, &a, &b)
@@ -118,8 +125,33 @@ fn combine_small<A: Augment, L: Leaf<A::Key, A::Val>, S: BlockSize, W: Combinati
     tree_of(alloc, &both)
 }
 
+/// Two trees of which the lesser has few entries, which are taken as a slice.
+fn combine_unlike<
+    A: Augment,
+    L: Leaf<A::Key, A::Val>,
+    S: BlockSize,
+    W: Combination<A::Key, A::Val>,
+>(
+    alloc: Global,
+    how: &W,
+    a: &TreeOver<A, L, S>,
+    b: &TreeOver<A, L, S>,
+) -> Result<TreeOver<A, L, S>, NoMemory>
+    requires first { IsIncreasing A.Key.cmp a.now.entries }
+    requires second { IsIncreasing A.Key.cmp b.now.entries }
+    ensures { IfOk result (IsAnswer (combined_entries (W.combined how.now)) (a.now, b.now)) }
+{
+    if a.size() >= b.size() {
+        let few = entries_of(alloc, b)?;
+        combine_few(alloc, how, Part { tree: a }, &few)
+    } else {
+        let few = entries_of(alloc, a)?;
+        combine_few(alloc, &Exchanged { how }, Part { tree: b }, &few)
+    }
+}
+
 /// What stays of a key and what two maps have there.
-fn keep_entry<K: Key, V: Share, W: Combination<K, V>>(
+pub(crate) fn keep_entry<K: Key, V: Share, W: Combination<K, V>>(
     alloc: Global,
     how: &W,
     key: &K,
@@ -201,6 +233,40 @@ fn cut_second<A: Augment, L: Leaf<A::Key, A::Val>, S: BlockSize, W: Combination<
             Ok(Opened::Split((below, near), middle, (above, far)))
         }
         _ => Ok(Opened::Done(combine_small(alloc, how, a, b)?)),
+    }
+}
+
+/// Two trees that are combined on one thread.
+#[derive(Drop)]
+pub(crate) struct Sides<A: Augment, L: Leaf<A::Key, A::Val>, S: BlockSize> {
+    pub(crate) first: TreeOver<A, L, S>,
+    pub(crate) second: TreeOver<A, L, S>,
+}
+
+/// The combination of two trees on one thread.
+pub(crate) fn combine_alone<
+    A: Augment,
+    L: Leaf<A::Key, A::Val>,
+    S: BlockSize,
+    W: Combination<A::Key, A::Val>,
+>(alloc: Global, how: &W, sides: Sides<A, L, S>) -> Result<TreeOver<A, L, S>, NoMemory>
+    ensures { IfOk result (IsAnswer (combined_entries (W.combined how.now)) (sides.first, sides.second)) }
+{
+    match open_sides(alloc, how, sides.first, sides.second)? {
+        Opened::Done(tree) => Ok(tree),
+        Opened::Split(lower, middle, upper) => {
+            let front = Sides {
+                first: lower.0,
+                second: lower.1,
+            };
+            let back = Sides {
+                first: upper.0,
+                second: upper.1,
+            };
+            let left = combine_alone(alloc, how, front)?;
+            let right = combine_alone(alloc, how, back)?;
+            join_around(alloc, left, middle, right)
+        }
     }
 }
 

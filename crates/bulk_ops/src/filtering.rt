@@ -70,7 +70,7 @@ impl<
         middle: Option<(A::Key, A::Val)>,
         right: TreeOver<A, L, S>,
     ) -> Result<TreeOver<A, L, S>, NoMemory> {
-        join_around::<A, L, S>(alloc, &left, middle, &right)
+        join_around::<A, L, S>(alloc, left, middle, right)
     }
 }
 

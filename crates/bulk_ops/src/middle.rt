@@ -11,15 +11,15 @@ use tree_base::{BlockSize, TreeOver};
 /// The tree of two trees and the entry between them, where there is one.
 pub(crate) fn join_around<A: Augment, L: Leaf<A::Key, A::Val>, S: BlockSize>(
     alloc: Global,
-    left: &TreeOver<A, L, S>,
+    left: TreeOver<A, L, S>,
     middle: Option<(A::Key, A::Val)>,
-    right: &TreeOver<A, L, S>,
+    right: TreeOver<A, L, S>,
 ) -> Result<TreeOver<A, L, S>, NoMemory>
-    requires increasing { IsIncreasing A.Key.cmp (left.now.entries ++ cons_option middle right.now.entries) }
-    ensures { IfOk result (λ tree. tree.entries ≡ left.now.entries ++ cons_option middle right.now.entries) }
+    requires increasing { IsIncreasing A.Key.cmp (left.entries ++ cons_option middle right.entries) }
+    ensures { IfOk result (λ tree. tree.entries ≡ left.entries ++ cons_option middle right.entries) }
 {
     match middle {
         Some((key, val)) => joined(alloc, left, key, val, right),
-        None => appended(alloc, left, right),
+        None => appended(alloc, &left, &right),
     }
 }

@@ -11,6 +11,9 @@ use tree_base::{BlockSize, TreeOver};
 /// A part with at most the entries of this many least blocks is worked on as a slice.
 pub(crate) const SLICED_BLOCKS: u64 = 32;
 
+/// A map with at most the entries of this many least blocks is a slice beside a greater one.
+pub(crate) const FEW_BLOCKS: u64 = 4;
+
 /// A map has fewer entries than this.
 pub(crate) const MOST_ENTRIES: usize = 0x1000_0000_0000_0000;
 

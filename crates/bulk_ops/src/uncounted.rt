@@ -4,7 +4,7 @@ ghost use Rattle.map_model.specs.Balance.{IsBlockSize};
 ghost use Rattle.map_model.specs.Entries.{IsIncreasing, lookup, below, above};
 
 use aug_monoid::{Augment, Leaf, NoMemory, Steps};
-use join_core::{join, join2};
+use join_core::{join_owned, join2};
 use std::alloc::Global;
 use std::marker::Brand;
 use std::sync::ledger::{Blank, Ledger};
@@ -44,33 +44,33 @@ fn planted_counted<A: Augment, L: Leaf<A::Key, A::Val>, S: BlockSize, C: Ledger>
 /// The tree of two trees and an entry between them.
 pub(crate) fn joined<A: Augment, L: Leaf<A::Key, A::Val>, S: BlockSize>(
     alloc: Global,
-    left: &TreeOver<A, L, S>,
+    left: TreeOver<A, L, S>,
     key: A::Key,
     val: A::Val,
-    right: &TreeOver<A, L, S>,
+    right: TreeOver<A, L, S>,
 ) -> Result<TreeOver<A, L, S>, NoMemory>
-    requires increasing { IsIncreasing A.Key.cmp (left.now.entries ++ (key, val) ∷ right.now.entries) }
-    ensures { IfOk result (λ tree. tree.entries ≡ left.now.entries ++ (key, val) ∷ right.now.entries) }
+    requires increasing { IsIncreasing A.Key.cmp (left.entries ++ (key, val) ∷ right.entries) }
+    ensures { IfOk result (λ tree. tree.entries ≡ left.entries ++ (key, val) ∷ right.entries) }
 {
     joined_counted::<A, L, S, Brand>(alloc, left, key, val, right, Blank::new(1))
 }
 
 fn joined_counted<A: Augment, L: Leaf<A::Key, A::Val>, S: BlockSize, C: Ledger>(
     alloc: Global,
-    left: &TreeOver<A, L, S>,
+    left: TreeOver<A, L, S>,
     key: A::Key,
     val: A::Val,
-    right: &TreeOver<A, L, S>,
+    right: TreeOver<A, L, S>,
     blank: Blank,
 ) -> Result<TreeOver<A, L, S>, NoMemory>
-    requires increasing { IsIncreasing A.Key.cmp (left.now.entries ++ (key, val) ∷ right.now.entries) }
+    requires increasing { IsIncreasing A.Key.cmp (left.entries ++ (key, val) ∷ right.entries) }
     requires name { blank.name ≡ C.name }
     requires parts { blank.parts ≡ C.parts }
     requires some { 0 < blank.parts }
-    ensures { IfOk result (λ tree. tree.entries ≡ left.now.entries ++ (key, val) ∷ right.now.entries) }
+    ensures { IfOk result (λ tree. tree.entries ≡ left.entries ++ (key, val) ∷ right.entries) }
 {
     let mut steps = Steps::<C>::start(blank);
-    join(alloc, left, key, val, right, &mut steps)
+    join_owned(alloc, left, key, val, right, &mut steps)
 }
 
 /// The tree of two trees, the first before the second.

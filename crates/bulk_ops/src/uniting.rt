@@ -5,8 +5,8 @@ ghost use Rattle.map_model.proofs.Unions.{united};
 ghost use Rattle.bulk_ops.specs.Laws.{union_laws};
 
 use crate::combination::Combination;
-use crate::combining::combine;
-use aug_monoid::{Key, Leaf, NoMemory, Resolve, Share, SyncAugment};
+use crate::combining::{Sides, combine, combine_alone};
+use aug_monoid::{Augment, Key, Leaf, NoMemory, Resolve, Share, SyncAugment};
 use entry_lists::union_of;
 use fork_join::{Cut, Gate};
 use std::alloc::Global;
@@ -82,4 +82,20 @@ pub fn union<
     ensures { IfOk result (λ tree. tree.entries ≡ union_of_entries A.Key.cmp (H.resolved how.now) a.now.entries b.now.entries) }
 {
     combine(rt, alloc, gate, cut, a, b, &Uniting { how })
+}
+
+/// The union on one thread, for values that are maps themselves.
+pub fn merge<A: Augment, L: Leaf<A::Key, A::Val>, S: BlockSize, H: Resolve<A::Val>>(
+    alloc: Global,
+    a: &TreeOver<A, L, S>,
+    b: &TreeOver<A, L, S>,
+    how: &H,
+) -> Result<TreeOver<A, L, S>, NoMemory>
+    ensures { IfOk result (λ tree. tree.entries ≡ union_of_entries A.Key.cmp (H.resolved how.now) a.now.entries b.now.entries) }
+{
+    let sides = Sides {
+        first: a.share(alloc)?,
+        second: b.share(alloc)?,
+    };
+    combine_alone(alloc, &Uniting { how }, sides)
 }

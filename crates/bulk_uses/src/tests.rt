@@ -3,7 +3,7 @@ ghost use Rattle.map_model.specs.Balance.{IsBlockSize};
 
 use crate::runs::{Multiples, Sums, multiples_of};
 use aug_monoid::{First, NoMemory, Reduce, Second, Test};
-use bulk_ops::{build, difference, filter, intersect, map_reduce, multi_del, multi_put, union};
+use bulk_ops::{build, difference, filter, intersect, map_reduce, merge, multi_del, multi_put, union};
 use fork_join::{Cut, FreeGate};
 use std::alloc::Global;
 use std::marker::Sync;
@@ -13,15 +13,16 @@ use std::thread::Threads;
 #[derive(Clone, Copy, Debug)]
 enum Combined {
     Union,
+    Merge,
     Intersection,
     Difference,
 }
 
-// What stands at a key of two maps: the union keeps the first value, the intersection the second.
+// What stands at a key of two maps: a union keeps the first value, the intersection the second.
 fn kept(call: Combined, a: Option<u64>, b: Option<u64>) -> Option<u64> {
     match (call, a, b) {
-        (Combined::Union, None, _) => b,
-        (Combined::Union, _, _) => a,
+        (Combined::Union | Combined::Merge, None, _) => b,
+        (Combined::Union | Combined::Merge, _, _) => a,
         (Combined::Intersection, Some(_), _) => b,
         (Combined::Difference, _, None) => a,
         _ => None,
@@ -59,6 +60,7 @@ fn answered<R: Threads + Sync, const B: usize>(
     let second = b.tree::<R, B>(rt, alloc, cut)?;
     let answer = match call {
         Combined::Union => union(rt, alloc, &FreeGate, cut, &first, &second, &First)?,
+        Combined::Merge => merge(alloc, &first, &second, &First)?,
         Combined::Intersection => intersect(rt, alloc, &FreeGate, cut, &first, &second, &Second)?,
         Combined::Difference => difference(rt, alloc, &FreeGate, cut, &first, &second)?,
     };
@@ -97,6 +99,7 @@ fn two_maps_are_combined_key_by_key(rt: HostRuntime) -> Result<(), Fail> {
     ] {
         for call in [
             Combined::Union,
+            Combined::Merge,
             Combined::Intersection,
             Combined::Difference,
         ] {

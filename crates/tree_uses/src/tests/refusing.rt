@@ -6,7 +6,7 @@ ghost use Rattle.map_model.specs.Balance.{IsBlockSize};
 use super::growing::listed;
 use super::probe::{Probe, ProbeKey};
 use super::watching::{Watched, rising_watched};
-use aug_monoid::{Augment, First, NoMemory, Steps};
+use aug_monoid::{Augment, NoMemory, Steps};
 use join_core::{join, join2};
 use leaf_blocks::PlainLeaf;
 use std::alloc::Global;
@@ -16,7 +16,7 @@ use std::sync::ledger::{Blank, Ledger};
 use std::test::Fail;
 use tree_base::{BlockSize, TreeOver, Width};
 use tree_points::{del, get, put};
-use tree_split::{expose, merge, split};
+use tree_split::{expose, split};
 
 /// Which of `get`, `put` and `del` are refused where shares are.
 fn refused_points<S: BlockSize, C: Ledger>(
@@ -51,21 +51,20 @@ fn refused_joins<S: BlockSize, C: Ledger>(
     Ok((joined, closed))
 }
 
-/// Which of `split`, `expose`, `merge` and `push_entries` are refused where shares are.
+/// Which of `split`, `expose` and `push_entries` are refused where shares are.
 fn refused_wholes<S: BlockSize, C: Ledger>(
     alloc: Global,
     probe: &Arc<Probe>,
     tree: &Watched<S>,
     steps: &mut Steps<C>,
-) -> Result<(bool, bool, bool, bool), NoMemory> {
+) -> Result<(bool, bool, bool), NoMemory> {
     let middle = ProbeKey::new(5, probe)?;
     probe.refuse(true);
     let split = split(alloc, tree, &middle, steps).is_err();
     let exposed = expose(alloc, tree).is_err();
-    let merged = merge(alloc, tree, tree, &First).is_err();
     let listed = listed(alloc, tree).is_err();
     probe.refuse(false);
-    Ok((split, exposed, merged, listed))
+    Ok((split, exposed, listed))
 }
 
 /// The numbers and values of a map's entries.
@@ -83,7 +82,7 @@ fn numbers<S: BlockSize>(alloc: Global, tree: &Watched<S>) -> Result<Vec<(u64, u
 struct Refusals {
     points: (bool, bool, bool),
     joins: (bool, bool),
-    wholes: (bool, bool, bool, bool),
+    wholes: (bool, bool, bool),
     is_unchanged: bool,
 }
 
@@ -131,12 +130,12 @@ fn refused<S: BlockSize>(alloc: Global) -> Result<Refusals, NoMemory>
 fn a_refused_share_leaves_the_map(rt: HostRuntime) -> Result<(), Fail> {
     let nodes = refused::<Width<2>>(rt.alloc())?;
     assert_eq!(rt; nodes.points, (true, true, true));
-    assert_eq!(rt; nodes.wholes, (true, true, true, true));
+    assert_eq!(rt; nodes.wholes, (true, true, true));
     assert!(rt; nodes.is_unchanged);
     let block = refused::<Width<32>>(rt.alloc())?;
     assert_eq!(rt; block.points, (true, true, true));
     assert_eq!(rt; block.joins, (true, true));
-    assert_eq!(rt; block.wholes, (true, true, true, true));
+    assert_eq!(rt; block.wholes, (true, true, true));
     assert!(rt; block.is_unchanged);
     Ok(())
 }

@@ -3,15 +3,14 @@ ghost use Rattle.std.specs.Prelude.{◌≡◌, ◌<◌};
 ghost use Rattle.map_model.specs.Balance.{IsBlockSize};
 
 use super::growing::{Sums, listed, rising};
-use aug_monoid::{NoMemory, SatSum, Steps};
+use aug_monoid::{NoMemory, Steps};
 use join_core::join;
 use std::alloc::Global;
 use std::marker::Brand;
 use std::sync::ledger::{Blank, Ledger};
 use std::test::Fail;
-use tree_base::{BlockSize, TreeOver, Width};
-use tree_points::put;
-use tree_split::{expose, merge, split};
+use tree_base::{BlockSize, Width};
+use tree_split::{expose, split};
 
 type Entries = Vec<(u64, u64)>;
 
@@ -105,84 +104,5 @@ fn small_maps_are_halved(rt: HostRuntime) -> Result<(), Fail> {
     assert_eq!(rt; exposed::<Width<1>>(alloc, 4)?, Some((1, 2, 1)));
     assert_eq!(rt; exposed::<Width<32>>(alloc, 4)?, Some((1, 2, 1)));
     assert_eq!(rt; exposed::<Width<32>>(alloc, 1)?, None);
-    Ok(())
-}
-
-/// A map of entries, put one by one.
-fn map_of<S: BlockSize, C: Ledger>(
-    alloc: Global,
-    entries: &[(u64, u64)],
-    steps: &mut Steps<C>,
-) -> Result<Sums<S>, NoMemory>
-    requires { IsBlockSize S.SIZE }
-{
-    let mut tree: Sums<S> = TreeOver::empty();
-    for (key, val) in entries {
-        tree = put(alloc, &tree, *key, *val, steps)?;
-    }
-    Ok(tree)
-}
-
-/// The union of two maps of entries, made anew from its entries.
-fn united_in<S: BlockSize, C: Ledger>(
-    alloc: Global,
-    first: &[(u64, u64)],
-    second: &[(u64, u64)],
-    steps: &mut Steps<C>,
-) -> Result<Entries, NoMemory>
-    requires block_size { IsBlockSize S.SIZE }
-{
-    let a: Sums<S> = map_of(alloc, first, steps)?;
-    let b: Sums<S> = map_of(alloc, second, steps)?;
-    let both = merge(alloc, &a, &b, &SatSum)?;
-    let _size = both.size();
-    let entries = listed(alloc, &both)?;
-    let again: Sums<S> = TreeOver::from_increasing(alloc, &entries, steps)?;
-    listed(alloc, &again)
-}
-
-fn united_counted<S: BlockSize, C: Ledger>(
-    alloc: Global,
-    first: &[(u64, u64)],
-    second: &[(u64, u64)],
-    blank: Blank,
-) -> Result<Entries, NoMemory>
-    requires block_size { IsBlockSize S.SIZE }
-    requires name { blank.name ≡ C.name }
-    requires parts { blank.parts ≡ C.parts }
-    requires some { 0 < blank.parts }
-{
-    let mut steps = Steps::<C>::start(blank);
-    united_in::<S, C>(alloc, first, second, &mut steps)
-}
-
-fn united<S: BlockSize>(
-    alloc: Global,
-    first: &[(u64, u64)],
-    second: &[(u64, u64)],
-) -> Result<Entries, NoMemory>
-    requires { IsBlockSize S.SIZE }
-{
-    united_counted::<S, Brand>(alloc, first, second, Blank::new(1))
-}
-
-#[test]
-fn values_at_a_key_of_both_maps_are_added(rt: HostRuntime) -> Result<(), Fail> {
-    let alloc = rt.alloc();
-    let first = [(5, 50), (1, 10), (3, 30)];
-    let second = [(3, 4), (4, 40)];
-    let both = [(1, 10), (3, 34), (4, 40), (5, 50)];
-    assert_eq!(rt;
-        united::<Width<1>>(alloc, &first, &second)?.as_slice(),
-        both.as_slice()
-    );
-    assert_eq!(rt;
-        united::<Width<2>>(alloc, &first, &second)?.as_slice(),
-        both.as_slice()
-    );
-    assert_eq!(rt;
-        united::<Width<32>>(alloc, &first, &second)?.as_slice(),
-        both.as_slice()
-    );
     Ok(())
 }

@@ -15,5 +15,5 @@ returns-then-second-eq0 g c =
     let how = c.args.how.now in
     let none : c.args.b.entries ≡ [] = nil_from_length c.args.b.entries (sym c.size-second.ensures.value ∙ c.if-second-eq0.true) in
     c.kept_or_none-then-second-eq0.ensures ∙ ap (λ k. cond k c.args.a.entries []) c.keeps_first.ensures
-    ∙ sym ((g.met.W.Combination.laws how).first_alone c.args.a.entries)
+    ∙ sym ((g.met.W.Combination.laws how).first_alone c.args.a.entries c.size-first.ensures.increasing)
     ∙ ap (λ b. g.W.Combination.combined how c.args.a.entries b) (sym none)

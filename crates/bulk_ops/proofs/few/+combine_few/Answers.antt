@@ -1,0 +1,67 @@
+use Rattle.std.proofs.Common.{rules, ◌≡◌, ◌<◌, ◌∷◌, ◌++◌, length, Some, IfOk, refl, sym, ap, ◌∙◌, subst, arith}
+use Rattle.std.specs.List.{cons_option}
+use Rattle.std.specs.Option.{option_map}
+use Rattle.map_model.specs.Entries.{IsIncreasing, below, above, lookup}
+use Rattle.map_model.proofs.Cuts.{length-around}
+use Rattle.map_model.proofs.Splits.{IsIncreasing-below, IsIncreasing-above}
+use Rattle.bulk_ops.specs.Combination.{entry_at}
+use Rattle.bulk_ops.proofs.NodeSides.{node_combined, node_rises}
+use Rattle.bulk_ops.proofs.few.+combine_few.Goals as goal
+
+pub same-front : goal.same-front
+same-front g t c = refl
+
+pub combine_few-requires : goal.combine_few-requires
+combine_few-requires g t c κs within =
+    let left = c.in-Node.left.now.entries in
+    let right = c.in-Node.right.now.entries in
+    let whole = ap length c.in-Node.ensures.top.entries_are ∙ length-around left (c.in-Node.key.now, c.in-Node.val.now) right in
+    let shorter : length left < length c.args.part.tree.now.entries = omega (arith, whole) in
+    let increasing : IsIncreasing g.A.Key.Ord.cmp c.cut_slice-parts.result.below.now = subst (IsIncreasing g.A.Key.Ord.cmp) (sym c.cut_slice-parts.ensures.below) (IsIncreasing-below g.A.Key.Ord.cmp c.args.few.now c.in-Node.key.now c.requires.increasing) in
+    search rules
+
+pub combine_few-requires-in-Node : goal.combine_few-requires-in-Node
+combine_few-requires-in-Node g t c κs within =
+    let left = c.in-Node.left.now.entries in
+    let right = c.in-Node.right.now.entries in
+    let whole = ap length c.in-Node.ensures.top.entries_are ∙ length-around left (c.in-Node.key.now, c.in-Node.val.now) right in
+    let shorter : length right < length c.args.part.tree.now.entries = omega (arith, whole) in
+    let increasing : IsIncreasing g.A.Key.Ord.cmp c.cut_slice-parts.result.above.now = subst (IsIncreasing g.A.Key.Ord.cmp) (sym c.cut_slice-parts.ensures.above) (IsIncreasing-above g.A.Key.Ord.cmp c.args.few.now c.in-Node.key.now c.requires.increasing) in
+    search rules
+
+pub join_around-requires : goal.join_around-requires
+join_around-requires g t c =
+    let laws = g.met.W.Combination.laws c.args.how.now in
+    let combined = g.W.Combination.combined c.args.how.now in
+    let kept = g.W.Combination.kept c.args.how.now in
+    let few = c.args.few.now in
+    let key = c.in-Node.key.now in
+    let node = c.in-Node.ensures.top in
+    let left = c.in-Node.left.now.entries in
+    let right = c.in-Node.right.now.entries in
+    let front = c.in_ok-front-in-Node.front.entries in
+    let back = c.in_ok-back-in-Node.back.entries in
+    let middle = c.in_ok-middle-in-Node.ensures ∙ ap (λ o. entry_at key (kept (Some c.in-Node.val.now) o)) c.cut_slice-parts.ensures.found in
+    let front_is : front ≡ combined left (below g.A.Key.Ord.cmp few key) = c.in_ok-front-in-Node.ensures ∙ ap (combined left) c.cut_slice-parts.ensures.below in
+    let back_is : back ≡ combined right (above g.A.Key.Ord.cmp few key) = c.in_ok-back-in-Node.ensures ∙ ap (combined right) c.cut_slice-parts.ensures.above in
+    let rises = subst (IsIncreasing g.A.Key.Ord.cmp) (sym node.entries_are) node.increasing in
+    record { increasing = node_rises laws c.args.part.tree.now.entries few front back c.in_ok-middle-in-Node.middle rises c.requires.increasing (node_combined laws c.args.part.tree.now.entries few front back left right key c.in-Node.val.now c.in_ok-middle-in-Node.middle node.entries_are rises c.requires.increasing middle front_is back_is) }
+
+pub returns-in_ok-back-in-Node : goal.returns-in_ok-back-in-Node
+returns-in_ok-back-in-Node g t c =
+    let laws = g.met.W.Combination.laws c.args.how.now in
+    let combined = g.W.Combination.combined c.args.how.now in
+    let kept = g.W.Combination.kept c.args.how.now in
+    let few = c.args.few.now in
+    let key = c.in-Node.key.now in
+    let node = c.in-Node.ensures.top in
+    let left = c.in-Node.left.now.entries in
+    let right = c.in-Node.right.now.entries in
+    let front = c.in_ok-front-in-Node.front.entries in
+    let back = c.in_ok-back-in-Node.back.entries in
+    let middle = c.in_ok-middle-in-Node.ensures ∙ ap (λ o. entry_at key (kept (Some c.in-Node.val.now) o)) c.cut_slice-parts.ensures.found in
+    let front_is : front ≡ combined left (below g.A.Key.Ord.cmp few key) = c.in_ok-front-in-Node.ensures ∙ ap (combined left) c.cut_slice-parts.ensures.below in
+    let back_is : back ≡ combined right (above g.A.Key.Ord.cmp few key) = c.in_ok-back-in-Node.ensures ∙ ap (combined right) c.cut_slice-parts.ensures.above in
+    let rises = subst (IsIncreasing g.A.Key.Ord.cmp) (sym node.entries_are) node.increasing in
+    let whole = node_combined laws c.args.part.tree.now.entries few front back left right key c.in-Node.val.now c.in_ok-middle-in-Node.middle node.entries_are rises c.requires.increasing middle front_is back_is in
+    subst (λ l. IfOk c.join_around.result (λ out. out.entries ≡ l)) whole c.join_around.ensures
