@@ -1,8 +1,8 @@
 //! Cursors over maps.
-ghost use Rattle.std.specs.Prelude.{◌≡◌, ◌+◌, ◌<◌, ◌≤◌, List, ◌∷◌, ◌++◌, Some, length, drop, slice_get, IfOk, IsOk};
+ghost use Rattle.std.specs.Prelude.{◌≡◌, ◌+◌, ◌<◌, ◌≤◌, Some, length, drop, slice_get, IfOk, IsOk};
 ghost use Rattle.std.specs.Iterator.{item_count};
 ghost use Rattle.aug_map.specs.Shares.{YieldsShares, Takes};
-ghost use Rattle.aug_map.specs.Places.{IsPlace};
+ghost use Rattle.aug_map.specs.Places.{IsBehind, IsPlace};
 
 use crate::map::MapOver;
 use crate::seat::{Seat, find_seat};
@@ -11,12 +11,13 @@ use std::alloc::Global;
 use std::marker::Model;
 use tree_base::{BlockSize, TreeOver, Width};
 
-/// A place in a leaf.
+/// A place in a leaf, with the entry that follows the leaf's last, if there is one.
 #[derive(Drop)]
-pub(crate) struct Place<'a, L> {
+pub(crate) struct Place<'a, K, V, L> {
     leaf: &'a L,
     at: u64,
     walk: Walk,
+    next: Option<(&'a K, &'a V)>,
 }
 
 /// The entries of a map in the order of their keys.
@@ -28,11 +29,12 @@ pub struct CursorOver<'a, A: Augment, L: Leaf<A::Key, A::Val>, S: BlockSize> {
     alloc: Global,
     tree: &'a TreeOver<A, L, S>,
     at: u64,
-    place: Option<Place<'a, L>>,
+    end: u64,
+    place: Option<Place<'a, A::Key, A::Val, L>>,
 }
 
 impl<'a, A: Augment, L: Leaf<A::Key, A::Val>, S: BlockSize> Model for CursorOver<'a, A, L, S> {
-    ghost use Rattle.std.specs.Prelude.{List, ◌≤◌, length, drop};
+    ghost use Rattle.std.specs.Prelude.{List, ◌≡◌, ◌≤◌, length, drop};
 
     ghost Value = { List (A.Key × A.Val) };
 
@@ -40,7 +42,9 @@ impl<'a, A: Augment, L: Leaf<A::Key, A::Val>, S: BlockSize> Model for CursorOver
 
     ghost view = { λ c. drop c.at c.tree.now.entries };
 
-    ghost invariant = { λ c. (c.at ≤ length c.tree.now.entries) × IsPlace L.entries L.fits_walk (drop c.at c.tree.now.entries) c.place };
+    ghost invariant = { λ c. (c.at ≤ c.end)
+        × (c.end ≡ length c.tree.now.entries)
+        × IsPlace L.entries L.fits_walk (drop c.at c.tree.now.entries) c.place };
 }
 
 impl<A: Augment, L: Leaf<A::Key, A::Val>, S: BlockSize> MapOver<A, L, S> {
@@ -53,16 +57,10 @@ impl<A: Augment, L: Leaf<A::Key, A::Val>, S: BlockSize> MapOver<A, L, S> {
             alloc,
             tree: &self.tree,
             at: 0,
+            end: self.tree.size(),
             place: None,
         }
     }
-}
-
-/// An entry, and the place behind it.
-#[derive(Drop)]
-pub(crate) struct Taken<'a, K, V, L> {
-    entry: Result<(K, V), NoMemory>,
-    place: Option<Place<'a, L>>,
 }
 
 fn share_entry<K: Share, V: Share>(alloc: Global, key: &K, val: &V) -> Result<(K, V), NoMemory>
@@ -100,56 +98,77 @@ fn read_entry<K: Key, V: Share, L: Leaf<K, V>>(
     }
 }
 
-// The entry at a place of a leaf, and the place behind it.
+// The entry at a place of a leaf, and the place moves behind it.
 fn take_inside<'a, K: Key, V: Share, L: Leaf<K, V>>(
     alloc: Global,
-    leaf: &'a L,
-    at: u64,
-    mut walk: Walk,
-) -> Taken<'a, K, V, L>
-    requires within { at < length (L.entries leaf.now) }
-    requires fits { L.fits_walk leaf.now walk }
-    ensures entry { Takes (L.entries leaf.now) at result.entry }
-    ensures succeeds { K.never_refuses → V.never_refuses → IsOk result.entry }
-    ensures place { (rest : List (K × V)) → IsPlace L.entries L.fits_walk (drop (at + 1) (L.entries leaf.now) ++ rest) result.place }
+    place: &mut Place<'a, K, V, L>,
+) -> Result<(K, V), NoMemory>
+    requires within { place.old.at < length (L.entries place.old.leaf.now) }
+    requires fits { L.fits_walk place.old.leaf.now place.old.walk }
+    ensures entry { Takes (L.entries place.old.leaf.now) place.old.at result }
+    ensures succeeds { K.never_refuses → V.never_refuses → IsOk result }
+    ensures place { IsBehind L.entries L.fits_walk place.old place.new }
 {
-    let entry = read_entry(alloc, leaf, at, &mut walk);
-    let _number = leaf.len();
-    Taken {
-        entry,
-        place: Some(Place {
-            leaf,
-            at: at + 1,
-            walk,
-        }),
+    let entry = read_entry(alloc, place.leaf, place.at, &mut place.walk);
+    let _number = place.leaf.len();
+    place.at += 1;
+    entry
+}
+
+// The entry behind the first `at` entries of a tree, looked up from the root, and the place behind it.
+fn take_from_root<'a, A: Augment, L: Leaf<A::Key, A::Val>, S: BlockSize>(
+    alloc: Global,
+    tree: &'a TreeOver<A, L, S>,
+    at: u64,
+    place: &mut Option<Place<'a, A::Key, A::Val, L>>,
+) -> Result<(A::Key, A::Val), NoMemory>
+    requires { at < length tree.now.entries }
+    ensures entry { Takes tree.now.entries at result }
+    ensures succeeds { A.Key.never_refuses → A.Val.never_refuses → IsOk result }
+    ensures place { IsPlace L.entries L.fits_walk (drop (at + 1) tree.now.entries) place.new }
+{
+    match find_seat(tree, at, None) {
+        Seat::Entry { key, val } => {
+            *place = None;
+            share_entry(alloc, key, val)
+        }
+        Seat::Inside { leaf, at, next } => {
+            let mut inside = Place {
+                leaf,
+                at,
+                walk: leaf.walk(),
+                next,
+            };
+            let entry = take_inside(alloc, &mut inside);
+            *place = Some(inside);
+            entry
+        }
     }
 }
 
-// The entry behind the first `at` entries of a tree, and the place behind it.
+// The entry behind the first `at` entries of a tree, and the place moves behind it.
 fn take_next<'a, A: Augment, L: Leaf<A::Key, A::Val>, S: BlockSize>(
     alloc: Global,
     tree: &'a TreeOver<A, L, S>,
     at: u64,
-    place: Option<Place<'a, L>>,
-) -> Taken<'a, A::Key, A::Val, L>
+    place: &mut Option<Place<'a, A::Key, A::Val, L>>,
+) -> Result<(A::Key, A::Val), NoMemory>
     requires within { at < length tree.now.entries }
-    requires place { IsPlace L.entries L.fits_walk (drop at tree.now.entries) place }
-    ensures entry { Takes tree.now.entries at result.entry }
-    ensures succeeds { A.Key.never_refuses → A.Val.never_refuses → IsOk result.entry }
-    ensures place { IsPlace L.entries L.fits_walk (drop (at + 1) tree.now.entries) result.place }
+    requires place { IsPlace L.entries L.fits_walk (drop at tree.now.entries) place.old }
+    ensures entry { Takes tree.now.entries at result }
+    ensures succeeds { A.Key.never_refuses → A.Val.never_refuses → IsOk result }
+    ensures place { IsPlace L.entries L.fits_walk (drop (at + 1) tree.now.entries) place.new }
 {
-    if let Some(place) = place {
-        if place.at < place.leaf.len() {
-            return take_inside(alloc, place.leaf, place.at, place.walk);
+    if let Some(inside) = place {
+        if inside.at < inside.leaf.len() {
+            return take_inside(alloc, inside);
+        }
+        if let Some((key, val)) = inside.next {
+            *place = None;
+            return share_entry(alloc, key, val);
         }
     }
-    match find_seat(tree, at) {
-        Seat::Entry { key, val } => Taken {
-            entry: share_entry(alloc, key, val),
-            place: None,
-        },
-        Seat::Inside { leaf, at } => take_inside(alloc, leaf, at, leaf.walk()),
-    }
+    take_from_root(alloc, tree, at, place)
 }
 
 impl<'a, A: Augment, L: Leaf<A::Key, A::Val>, S: BlockSize> Iterator for CursorOver<'a, A, L, S> {
@@ -160,12 +179,11 @@ impl<'a, A: Augment, L: Leaf<A::Key, A::Val>, S: BlockSize> Iterator for CursorO
     ghost remaining = { item_count (λ c. c) };
 
     fn next(&mut self) -> Option<Result<(A::Key, A::Val), NoMemory>> {
-        if self.at >= self.tree.size() {
+        if self.at >= self.end {
             return None;
         }
-        let Taken { entry, place } = take_next(self.alloc, self.tree, self.at, self.place.take());
+        let entry = take_next(self.alloc, self.tree, self.at, &mut self.place);
         self.at += 1;
-        self.place = place;
         Some(entry)
     }
 }
