@@ -18,7 +18,7 @@ pub struct Version<S: State> {
     held: Held<S>,
 }
 
-/// Where the parts of a version stand. What has one owner takes no memory, and what has many is shared at once.
+/// Where the parts of a version stand: in the version itself, which takes no memory, or in a block that may have many owners.
 #[derive(Drop)]
 enum Held<S: State> {
     Own(Parts<S>),
@@ -172,7 +172,7 @@ impl<S: State> Share for Parts<S> {
 impl<S: State> Share for Version<S> {
     ghost never_refuses = { ⊥ };
 
-    /// What `extend` made gets one more owner, and of what `first` made each part is shared.
+    /// The parts that `extend` made get one more owner. Of those that `first` made, each is shared.
     fn share(&self, alloc: Global) -> Result<Version<S>, NoMemory> {
         match &self.held {
             Held::Own(parts) => Ok(Version {
