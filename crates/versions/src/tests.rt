@@ -67,7 +67,9 @@ fn an_earlier_version_stays(rt: HostRuntime) -> Result<(), Fail> {
     }];
     let second = first.extend(&rt, alloc, &FreeGate, cut, &entries)?;
     let copy = second.share(alloc)?;
+    let start = first.share(alloc)?;
     assert_eq!(rt; (first.number(), *first.state()), (0, 0));
+    assert_eq!(rt; (start.number(), *start.state()), (0, 0));
     assert_eq!(rt; (copy.number(), *copy.state()), (1, 30));
     let entry = copy.journal().get(0).ok_or("one entry")?;
     assert_eq!(rt; (entry.caller, entry.tag), (3, 7));

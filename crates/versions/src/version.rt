@@ -9,18 +9,32 @@ use fork_join::{Cut, Gate};
 use shared_log::SharedLog;
 use std::alloc::Global;
 use std::marker::{Model, Sync};
+use std::sync::Arc;
 use std::thread::Threads;
 
 /// A version, seen as its base and its journal. Its state is that after the journal's operations, applied in order to the base.
 #[derive(Drop)]
 pub struct Version<S: State> {
+    held: Held<S>,
+}
+
+/// Where the parts of a version stand: in the version itself, which takes no memory, or in a block that may have many owners.
+#[derive(Drop)]
+enum Held<S: State> {
+    Own(Parts<S>),
+    Shared(Arc<Parts<S>>),
+}
+
+/// What a version consists of, seen as the version is.
+#[derive(Drop)]
+struct Parts<S: State> {
     base: S,
     journal: SharedLog<Entry<S::Op>>,
     /// The state, unless it is the base.
     state: Option<S>,
 }
 
-impl<S: State> Model for Version<S> {
+impl<S: State> Model for Parts<S> {
     ghost use Rattle.versions.specs.History.{History, history, IsStateOf};
 
     ghost Value = { History S S.Op };
@@ -30,15 +44,37 @@ impl<S: State> Model for Version<S> {
     ghost invariant = { λ a. IsStateOf S.step (history a.base a.journal) a.state };
 }
 
+impl<S: State> Model for Version<S> {
+    ghost use Rattle.versions.specs.History.{History};
+
+    ghost Value = { History S S.Op };
+
+    ghost use Rattle.versions.specs.Held.{parts_of};
+
+    ghost view = { λ a. parts_of a.held };
+}
+
 impl<S: State> Version<S> {
     /// The version with this base and an empty journal. It takes no memory and makes no copy.
     pub fn first(base: S) -> Version<S>
         ensures { result ≡ history base [] }
     {
         Version {
-            base,
-            journal: SharedLog::new(),
-            state: None,
+            held: Held::Own(Parts {
+                base,
+                journal: SharedLog::new(),
+                state: None,
+            }),
+        }
+    }
+
+    /// Lends the parts, wherever they stand.
+    fn parts(&self) -> &Parts<S>
+        ensures { result.now ≡ self.now }
+    {
+        match &self.held {
+            Held::Own(parts) => parts,
+            Held::Shared(parts) => parts,
         }
     }
 
@@ -46,15 +82,16 @@ impl<S: State> Version<S> {
     pub fn number(&self) -> u64
         ensures { result ≡ length self.now.journal }
     {
-        self.journal.len()
+        self.parts().journal.len()
     }
 
     /// Lends the state after the journal's operations.
     pub fn state(&self) -> &S
         ensures { result.now ≡ state_of S.step self.now }
     {
-        match &self.state {
-            None => &self.base,
+        let parts = self.parts();
+        match &parts.state {
+            None => &parts.base,
             Some(state) => state,
         }
     }
@@ -63,7 +100,7 @@ impl<S: State> Version<S> {
     pub fn journal(&self) -> &SharedLog<Entry<S::Op>>
         ensures { result.now ≡ self.now.journal }
     {
-        &self.journal
+        &self.parts().journal
     }
 
     /// The version with the same base, and with the entries at the end of the journal.
@@ -82,10 +119,14 @@ impl<S: State> Version<S> {
         let state = self
             .state()
             .apply(rt, alloc, gate, cut, batches.as_slice())?;
-        Ok(Version {
-            base: self.base.share(alloc)?,
-            journal: with_entries(alloc, &self.journal, entries)?,
+        let parts = self.parts();
+        let longer = Parts {
+            base: parts.base.share(alloc)?,
+            journal: with_entries(alloc, &parts.journal, entries)?,
             state: Some(state),
+        };
+        Ok(Version {
+            held: Held::Shared(Arc::new(alloc, longer)?),
         })
     }
 }
@@ -116,14 +157,30 @@ fn with_entries<O: Share>(
     Ok(longer)
 }
 
-impl<S: State> Share for Version<S> {
+impl<S: State> Share for Parts<S> {
     ghost never_refuses = { ⊥ };
 
-    fn share(&self, alloc: Global) -> Result<Version<S>, NoMemory> {
-        Ok(Version {
+    fn share(&self, alloc: Global) -> Result<Parts<S>, NoMemory> {
+        Ok(Parts {
             base: self.base.share(alloc)?,
             journal: self.journal.share(alloc)?,
             state: self.state.share(alloc)?,
         })
+    }
+}
+
+impl<S: State> Share for Version<S> {
+    ghost never_refuses = { ⊥ };
+
+    /// The parts that `extend` made get one more owner. Of those that `first` made, each is shared.
+    fn share(&self, alloc: Global) -> Result<Version<S>, NoMemory> {
+        match &self.held {
+            Held::Own(parts) => Ok(Version {
+                held: Held::Own(parts.share(alloc)?),
+            }),
+            Held::Shared(parts) => Ok(Version {
+                held: Held::Shared(Arc::try_clone(parts)?),
+            }),
+        }
     }
 }
