@@ -9,9 +9,9 @@ ghost use Rattle.bulk_ops.specs.Combination.{combined_entries, entry_count};
 
 use crate::combination::Combination;
 use crate::exchanged::Exchanged;
-use crate::few::combine_few;
+use crate::few::{combine_few, combine_lists};
 use crate::middle::join_around;
-use crate::small::{FEW_BLOCKS, SLICED_BLOCKS, entries_of, kept_or_none, tree_of};
+use crate::small::{FEW_BLOCKS, SLICED_BLOCKS, entries_of, kept_or_none};
 use crate::uncounted::split_at;
 use aug_monoid::{Augment, Key, Leaf, NoMemory, Share, SyncAugment};
 use fork_join::{Cut, Divide, Gate, Opened, divide};
@@ -70,8 +70,8 @@ impl<
     }
 }
 
-/// Two trees of which one is empty, which are small and of like sizes, of which one has few entries, or which are cut at the root
-/// of the greater one.
+/// Two trees of which one is empty, which are small and of like sizes, of which one has few entries, or which are cut at the
+/// root of the greater one.
 fn open_sides<A: Augment, L: Leaf<A::Key, A::Val>, S: BlockSize, W: Combination<A::Key, A::Val>>(
     alloc: Global,
     how: &W,
@@ -118,11 +118,8 @@ fn combine_small<A: Augment, L: Leaf<A::Key, A::Val>, S: BlockSize, W: Combinati
     requires second { IsIncreasing A.Key.cmp b.now.entries }
     ensures { IfOk result (IsAnswer (combined_entries (W.combined how.now)) (a.now, b.now)) }
 {
-    let _least = a.block_size();
-    let left = entries_of(alloc, a)?;
-    let right = entries_of(alloc, b)?;
-    let both = how.combine_slices(alloc, &left, &right)?;
-    tree_of(alloc, &both)
+    let second = entries_of(alloc, b)?;
+    combine_lists(alloc, how, a, &second)
 }
 
 /// Two trees of which the lesser has few entries, which are taken as a slice.

@@ -13,7 +13,12 @@ use std::alloc::Global;
 use tree_base::{BlockSize, LookOver, TreeOver};
 
 /// A tree and a slice combined as two lists.
-fn combine_lists<A: Augment, L: Leaf<A::Key, A::Val>, S: BlockSize, W: Combination<A::Key, A::Val>>(
+pub(crate) fn combine_lists<
+    A: Augment,
+    L: Leaf<A::Key, A::Val>,
+    S: BlockSize,
+    W: Combination<A::Key, A::Val>,
+>(
     alloc: Global,
     how: &W,
     tree: &TreeOver<A, L, S>,
@@ -29,7 +34,8 @@ fn combine_lists<A: Augment, L: Leaf<A::Key, A::Val>, S: BlockSize, W: Combinati
     tree_of(alloc, &both)
 }
 
-/// A tree combined with few entries: it goes down only where one of them is, cuts the slice at each node's key, and shares the other sides.
+/// A tree combined with few entries. It goes down only where one of them is, cuts the slice at each node's key, and shares the
+/// other sides.
 pub(crate) fn combine_few<
     A: Augment,
     L: Leaf<A::Key, A::Val>,
