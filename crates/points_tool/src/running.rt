@@ -1,11 +1,14 @@
 //! Runs the commands of an input.
-ghost use Rattle.std.specs.Prelude.{◌≡◌, ◌++◌, [], IfOk, OnOk};
+ghost use Rattle.std.specs.Prelude.{◌≡◌, ◌++◌, [], codes, IfOk, OnOk};
+ghost use Rattle.aug_monoid.specs.Exact.{pair64_cmp};
+ghost use Rattle.map_model.specs.Operations.{after, dels};
 ghost use Rattle.points_tool.specs.Effects.{points_after, points_reply};
+ghost use Rattle.script.specs.Lines.{line_of};
 ghost use Rattle.script.specs.Replies.{replies};
 
 use crate::asking::{list, rect, total};
 use crate::board::Board;
-use aug_monoid::NoMemory;
+use aug_monoid::{NoMemory, Pair64};
 use fork_join::{Cut, Gate};
 use range_tree::Points;
 use script::{PointsCommand, line};
@@ -13,8 +16,8 @@ use std::alloc::Global;
 use std::marker::Sync;
 use std::thread::Threads;
 
-/// The replies to the commands, run in order from no points on. They depend neither on the runtime nor on the gate nor on the cut.
-/// Commands in a row that add points are one bulk operation, which forks where the cut allows it.
+/// The replies to the commands, run in order from no points on. They depend neither on the runtime nor on the gate nor on the
+/// cut. Commands in a row that add points are one bulk operation, which forks where the cut allows it.
 pub fn run_points<R: Threads + Sync, G: Gate>(
     rt: &R,
     alloc: Global,
@@ -52,10 +55,8 @@ fn run_one<R: Threads + Sync, G: Gate>(
             board.with(points.items())
         }
         PointsCommand::Del { places, .. } => {
-            let points = board.settled(rt, alloc, gate, cut)?;
-            let fewer = points.del(rt, alloc, gate, cut, places.items())?;
-            line(text, "ok", &[])?;
-            Ok(Board::of(alloc, fewer))
+            let places = places.items();
+            remove(rt, alloc, gate, cut, board, places, text)
         }
         PointsCommand::Size { .. } => {
             let points = board.settled(rt, alloc, gate, cut)?;
@@ -73,4 +74,23 @@ fn run_one<R: Threads + Sync, G: Gate>(
             Ok(Board::of(alloc, points))
         }
     }
+}
+
+// Removes the points at these places, and appends the reply.
+fn remove<R: Threads + Sync, G: Gate>(
+    rt: &R,
+    alloc: Global,
+    gate: &G,
+    cut: Cut,
+    board: Board,
+    places: &[Pair64],
+    text: &mut Vec<u8>,
+) -> Result<Board, NoMemory>
+    ensures after { IfOk result (λ next. next ≡ after pair64_cmp board (dels places.now)) }
+    ensures reply { OnOk result (text.new.items ≡ text.old.items ++ line_of (codes "ok") []) }
+{
+    let points = board.settled(rt, alloc, gate, cut)?;
+    let fewer = points.del(rt, alloc, gate, cut, places)?;
+    line(text, "ok", &[])?;
+    Ok(Board::of(alloc, fewer))
 }

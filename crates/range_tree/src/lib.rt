@@ -1,7 +1,7 @@
 //! A two-level range tree: points in the plane, with the total and the list of those in a rectangle.
 //!
-//! The outer map has the points by (x, y). The augmented value of each of its parts is the map of the same points by (y, x), with
-//! the sum of their weights.
+//! The outer map has the points by (x, y). The augmented value of each of its parts is the map of the same points by (y, x),
+//! with the sum of their weights.
 #![tactic(auto)]
 
 mod listings;

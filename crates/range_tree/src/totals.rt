@@ -2,7 +2,8 @@
 ghost use Rattle.std.specs.Prelude.{◌≡◌, ◌<◌, length, IfOk};
 ghost use Rattle.aug_monoid.specs.Exact.{pair64_cmp};
 ghost use Rattle.map_model.specs.Parts.{left_of, slice};
-ghost use Rattle.range_tree.specs.Totals.{TotalFits, capped_total, rows_projection, rows_total, rows_total_fits, total_both, total_monoid};
+ghost use Rattle.range_tree.specs.Totals.{TotalFits, capped_total, rows_projection, rows_total, rows_total_fits};
+ghost use Rattle.range_tree.specs.Totals.{total_both, total_monoid};
 
 use crate::places::{greatest_at, least_at};
 use crate::points::Total;

@@ -71,8 +71,8 @@ impl Points {
         &self.map
     }
 
-    /// With these points set in order, so that a later point replaces an earlier one at its place. It is one bulk operation, which
-    /// forks where the cut allows it.
+    /// With these points set in order, so that a later point replaces an earlier one at its place. It is one bulk operation,
+    /// which forks where the cut allows it.
     #[tactic(auto, using(crate::proofs::Kept::all_after_puts))]
     pub fn add<R: Threads + Sync, G: Gate>(
         &self,
@@ -89,8 +89,8 @@ impl Points {
         Ok(Points { map })
     }
 
-    /// Without the points at these places (x, y); places that have none change nothing. It is one bulk operation, which forks where
-    /// the cut allows it.
+    /// Without the points at these places (x, y); places that have none change nothing. It is one bulk operation, which forks
+    /// where the cut allows it.
     #[tactic(auto, using(crate::proofs::Kept::all_after_dels))]
     pub fn del<R: Threads + Sync, G: Gate>(
         &self,
