@@ -145,6 +145,10 @@ module _ (sets batch : Sets) (are : AreSets sets) (be : AreSets batch) where
       (lookup-filter nat_cmp_total nat_exact (λ _ ns. has_elements ns) (intersect nat_cmp minus sets batch) u common_rises
       ∙ ap (option_and_then if_filled) (lookup-intersect nat_exact minus sets batch u))
 
+  -- at the values that the program has
+  pub left_is : (common filled others new : Sets) → common ≡ intersect nat_cmp minus sets batch → filled ≡ filter (λ e. has_elements e.1) common → others ≡ difference nat_cmp sets batch → new ≡ union nat_cmp (λ x y. x) others filled → new ≡ left
+  left_is common filled others new c f o n = n ∙ ap₂ (λ a b. union nat_cmp (λ x y. x) a b) o (f ∙ ap (filter (λ (e : ℕ × List (ℕ × Unit {0})). has_elements e.1)) c)
+
   pub sets-left : AreSets left
   sets-left = record {
     increasing = IsIncreasing-union nat_cmp_total (λ x y. x) (difference nat_cmp sets batch) kept (IsIncreasing-difference nat_cmp sets batch are.increasing);

@@ -28,8 +28,8 @@ set_within sets u are = let e = length-replace sets u [] are in omega (arith, e)
 
 -- ---- at the values that the program has
 
-pub out_is : (sets : Sets) (g : List (ℕ × ℕ)) (u n : ℕ) (set : List (ℕ × Unit {0})) → edges_of sets ≡ g → AreSets sets → n ≡ length set → set ≡ set_at sets u → n ≡ length (out_neighbours g u)
-out_is sets g u n set is are m s = m ∙ ap length s ∙ sym (length-out sets u are) ∙ ap (λ h. length (out_neighbours h u)) is
+pub out_is : (sets : Sets) (g : List (ℕ × ℕ)) (u n : ℕ) → edges_of sets ≡ g → AreSets sets → n ≡ length (set_at sets u) → n ≡ length (out_neighbours g u)
+out_is sets g u n is are m = m ∙ sym (length-out sets u are) ∙ ap (λ h. length (out_neighbours h u)) is
 
 pub next_is : (sets : Sets) (front found : List (ℕ × ℕ)) (d : ℕ) (pairs shown near next : List (ℕ × ℕ)) → pairs ≡ at_distance d (neighbours_of sets front) → shown ≡ pairs → near ≡ build nat_cmp shown → next ≡ difference nat_cmp near found → next ≡ next_front sets front found d
 next_is sets front found d pairs shown near next p s m n =

@@ -1,5 +1,5 @@
 -- How many edges a map of sets has that differs from another one at some vertices.
-use Rattle.std.proofs.Common.{◌≡◌, ◌∙◌, ◌+◌, ◌-◌, ◌<◌, ◌≤◌, ◌++◌, ◌∷◌, [], ℕ, Bool, true, false, cond, List, Option, None, Some, length, take, get_or, refl, sym, ap, ap₂, subst, arith}
+use Rattle.std.proofs.Common.{◌≡◌, ◌∙◌, ◌+◌, ◌-◌, ◌<◌, ◌≤◌, ◌++◌, ◌∷◌, [], ℕ, Bool, true, false, cond, List, Option, None, Some, length, take, drop, get_or, refl, sym, ap, ap₂, subst, arith}
 use Rattle.std.specs.declared.cmp.Ordering.{Ordering}
 use Rattle.std.specs.declared.cmp.Ordering.TheVariants.{Less, Equal, Greater}
 use Rattle.std.specs.Option.{is_some, unwrap_or}
@@ -65,14 +65,14 @@ module _ (before after : Sets) where
   pub counted_first : (ks : Sets) (edges : ℕ) → edges ≡ length (edges_of before) → edges ≡ counted ks 0
   counted_first ks edges e = e
 
-  module _ (are : AreSets before) (be : AreSets after) (ks : Sets) (rises : IsIncreasing nat_cmp ks) (i : ℕ) (d : ℕ × List (ℕ × Unit {0})) (in_range : i < length ks) where
-    abbrev k : ℕ × List (ℕ × Unit {0})
-    k = get_or ks i d
+  module _ (are : AreSets before) (be : AreSets after) (ks : Sets) (rises : IsIncreasing nat_cmp ks) (i : ℕ) (k : ℕ × List (ℕ × Unit {0})) (in_range : i < length ks) (is : k ≡ get_or ks i k) where
+    one_more : take (i + 1) ks ≡ take i ks ++ k ∷ []
+    one_more = take_more ks i k in_range ∙ ap (λ x. take i ks ++ x ∷ []) (sym is)
 
     -- a vertex is not among those before it
     not_before : lookup nat_cmp (take i ks) k.0 ≡ None
     not_before =
-        let front : IsIncreasing nat_cmp (take i ks ++ k ∷ []) = subst (IsIncreasing nat_cmp) (take_more ks i d in_range) (IsIncreasing-front nat_cmp (take (i + 1) ks) _ (subst (IsIncreasing nat_cmp) (sym (take-append-drop (i + 1) ks)) rises)) in
+        let front : IsIncreasing nat_cmp (take i ks ++ k ∷ []) = subst (IsIncreasing nat_cmp) one_more (IsIncreasing-front nat_cmp (take (i + 1) ks) (drop (i + 1) ks) (subst (IsIncreasing nat_cmp) (sym (take-append-drop (i + 1) ks)) rises)) in
         lookup-all_less nat_cmp_total (take i ks) k.0 (around nat_cmp (take i ks) k.0 k.1 [] front).lower
 
     same_set : set_at (patched before (take i ks)) k.0 ≡ set_at before k.0
@@ -80,7 +80,7 @@ module _ (before after : Sets) where
 
     next_count : counted ks (i + 1) + length (set_at before k.0) ≡ counted ks i + length (set_at after k.0)
     next_count =
-        ap₂ (λ m s. length (edges_of m) + length s) (ap (patched before) (take_more ks i d in_range) ∙ patched-append (take i ks) (k ∷ []) before) (sym same_set)
+        ap₂ (λ m s. length (edges_of m) + length s) (ap (patched before) one_more ∙ patched-append (take i ks) (k ∷ []) before) (sym same_set)
         ∙ length-replace (patched before (take i ks)) k.0 (set_at after k.0) (sets-patched be (take i ks) before are)
 
     old_within : length (set_at before k.0) ≤ counted ks i
@@ -90,13 +90,11 @@ module _ (before after : Sets) where
         omega (arith, all, same)
 
     -- at the values that the program has
-    pub can_take : (count size : ℕ) (old : List (ℕ × Unit {0})) → count ≡ counted ks i → size ≡ length old → old ≡ set_at before k.0 → size ≤ count
-    can_take count size old c z o = let same = ap length o in let within = old_within in omega (arith, c, z, same, within)
+    pub can_take : (count old : ℕ) → count ≡ counted ks i → old ≡ length (set_at before k.0) → old ≤ count
+    can_take count old c o = let within = old_within in omega (arith, c, o, within)
 
-    pub counted_more : (count more size new_size : ℕ) (old new : List (ℕ × Unit {0})) → count ≡ counted ks i → size ≡ length old → old ≡ set_at before k.0 → new_size ≡ length new → new ≡ set_at after k.0 → more ≡ count - size + new_size → more ≡ counted ks (i + 1)
-    counted_more count more size new_size old new c z o y n m =
-        let o' = ap length o in let n' = ap length n in let within = old_within in let next = next_count in
-        omega (arith, c, z, o', y, n', m, within, next)
+    pub counted_more : (count more old degree : ℕ) → count ≡ counted ks i → old ≡ length (set_at before k.0) → degree ≡ length (set_at after k.0) → more ≡ count - old + degree → more ≡ counted ks (i + 1)
+    counted_more count more old degree c o d m = let within = old_within in let next = next_count in omega (arith, c, o, d, m, within, next)
 
   pub counted_all : (ks : Sets) (i count : ℕ) → AreSets before → AreSets after → AreAlikeBut ks before after → length ks ≤ i → count ≡ counted ks i → count ≡ length (edges_of after)
   counted_all ks i count are be alike h c = c ∙ ap (λ l. length (edges_of (patched before l))) (take_all i ks h) ∙ ap (λ m. length (edges_of m)) (patched_is ks are be alike)

@@ -21,7 +21,7 @@ use Rattle.map_model.proofs.Keys.{AllKeys-append, AllKeys-map, IsBefore-from_app
 use Rattle.map_model.proofs.Lookups.{lookup-append}
 use Rattle.map_model.proofs.NatKeys.{nat_exact}
 use Rattle.map_model.proofs.Operations.{build-increasing}
-use Rattle.graph_snap.specs.Batches.{as_keys, as_pairs, run}
+use Rattle.graph_snap.specs.Batches.{as_keys, as_pairs, ends, run}
 use Rattle.graph_snap.specs.Edges.{AreSets, IsFilled, IsGraph, Sets, edge_order, edges_of, elements, pairs_of, with_edges}
 use Rattle.graph_snap.specs.declared.edge.Edge.{Edge}
 use Rattle.graph_snap.proofs.Sets.{fan}
@@ -75,13 +75,10 @@ in_order_is list keys shown ordered entries lent pairs k s o e l p = p ∙ ap as
 
 -- ---- the run of one vertex
 
-abbrev targets : List (ℕ × ℕ) → List (ℕ × Unit {0})
-targets g = elements (map (λ e. e.1) g)
-
-run_fan : (u : ℕ) (g : List (ℕ × ℕ)) → take (run u g) g ≡ fan u (targets (take (run u g) g))
+run_fan : (u : ℕ) (g : List (ℕ × ℕ)) → take (run u g) g ≡ fan u (ends (take (run u g) g))
 run_fan u [] = refl
 run_fan u (e ∷ g) =
-    elim (e.0 == u) as (λ b. e.0 == u ≡ b → take (cond b (suc (run u g)) 0) (e ∷ g) ≡ fan u (targets (take (cond b (suc (run u g)) 0) (e ∷ g)))) [
+    elim (e.0 == u) as (λ b. e.0 == u ≡ b → take (cond b (suc (run u g)) 0) (e ∷ g) ≡ fan u (ends (take (cond b (suc (run u g)) 0) (e ∷ g)))) [
       | true ↦ λ is. ap₂ (λ x m. x ∷ m) (ap (λ k. let p : ℕ × ℕ = (k, e.1) in p) (exact_unsigned_eq e.0 u is)) (run_fan u g)
       | false ↦ λ _. refl
     ] refl
@@ -184,7 +181,7 @@ module _ (g : List (ℕ × ℕ)) (graph : IsGraph g) (sets : Sets) (e : ℕ × �
   left = e ∷ tail
 
   abbrev set_here : List (ℕ × Unit {0})
-  set_here = targets (take (run e.0 left) left)
+  set_here = ends (take (run e.0 left) left)
 
   abbrev after_run : List (ℕ × ℕ)
   after_run = drop (run e.0 left) left
@@ -203,7 +200,7 @@ module _ (g : List (ℕ × ℕ)) (graph : IsGraph g) (sets : Sets) (e : ℕ × �
   rises = fan_rises_back e.0 set_here (IsIncreasing-front edge_order (elements (fan e.0 set_here)) (elements after_run) from_here)
 
   some : 0 < length set_here
-  some = subst (λ n. 0 < length (targets (take n left))) (sym (run_first e tail)) (omega arith)
+  some = subst (λ n. 0 < length (ends (take n left))) (sym (run_first e tail)) (omega arith)
 
   behind_later : (b : List (ℕ × ℕ)) → after_run ≡ b → IsAfter (sets ++ (e.0, set_here) ∷ []) b
   behind_later [] is = tt
@@ -226,14 +223,14 @@ module _ (g : List (ℕ × ℕ)) (graph : IsGraph g) (sets : Sets) (e : ℕ × �
   built_is = build-increasing nat_cmp_total nat_exact set_here rises
 
 -- one run more, at the values that the program has
-pub grouping_goes_on : (g : List (ℕ × ℕ)) → IsGraph g → (sets new : Sets) (rest here behind : List (ℕ × ℕ)) (e : ℕ × ℕ) (n : ℕ) (ns : List (ℕ × Unit {0})) → IsGrouping g sets rest → slice_get rest 0 ≡ Some e → n ≡ run e.0 rest → here ≡ take n rest → behind ≡ drop n rest → ns ≡ build nat_cmp (elements (map (λ e. e.1) here)) → new ≡ sets ++ (e.0, ns) ∷ [] → IsGrouping g new behind
+pub grouping_goes_on : (g : List (ℕ × ℕ)) → IsGraph g → (sets new : Sets) (rest here behind : List (ℕ × ℕ)) (e : ℕ × ℕ) (n : ℕ) (ns : List (ℕ × Unit {0})) → IsGrouping g sets rest → slice_get rest 0 ≡ Some e → n ≡ run e.0 rest → here ≡ take n rest → behind ≡ drop n rest → ns ≡ build nat_cmp (ends here) → new ≡ sets ++ (e.0, ns) ∷ [] → IsGrouping g new behind
 grouping_goes_on g graph sets new [] here behind e n ns so_far f c h b s w = absurd (none-some e f)
 grouping_goes_on g graph sets new (d ∷ tail) here behind e n ns so_far f c h b s w =
     let first : d ≡ e = same_Some d e f in
     let count : n ≡ run d.0 (d ∷ tail) = c ∙ ap (λ x. run x.0 (d ∷ tail)) (sym first) in
-    let set : ns ≡ targets (take (run d.0 (d ∷ tail)) (d ∷ tail)) = s ∙ ap (λ x. build nat_cmp (targets x)) (h ∙ ap (λ k. take k (d ∷ tail)) count) ∙ built_is g graph sets d tail so_far in
-    let all : new ≡ sets ++ (d.0, targets (take (run d.0 (d ∷ tail)) (d ∷ tail))) ∷ [] = w ∙ ap₂ (λ x y. sets ++ (x.0, y) ∷ []) (sym first) set in
-    subst (λ m. IsGrouping g m behind) (sym all) (subst (IsGrouping g (sets ++ (d.0, targets (take (run d.0 (d ∷ tail)) (d ∷ tail))) ∷ [])) (sym (b ∙ ap (λ k. drop k (d ∷ tail)) count)) (grouping_more g graph sets d tail so_far))
+    let set : ns ≡ ends (take (run d.0 (d ∷ tail)) (d ∷ tail)) = s ∙ ap (λ x. build nat_cmp (ends x)) (h ∙ ap (λ k. take k (d ∷ tail)) count) ∙ built_is g graph sets d tail so_far in
+    let all : new ≡ sets ++ (d.0, ends (take (run d.0 (d ∷ tail)) (d ∷ tail))) ∷ [] = w ∙ ap₂ (λ x y. sets ++ (x.0, y) ∷ []) (sym first) set in
+    subst (λ m. IsGrouping g m behind) (sym all) (subst (IsGrouping g (sets ++ (d.0, ends (take (run d.0 (d ∷ tail)) (d ∷ tail))) ∷ [])) (sym (b ∙ ap (λ k. drop k (d ∷ tail)) count)) (grouping_more g graph sets d tail so_far))
 
 pub grouping_ends : (g : List (ℕ × ℕ)) (sets : Sets) (rest : List (ℕ × ℕ)) → IsGrouping g sets rest → slice_get rest 0 ≡ None → edges_of sets ≡ g
 grouping_ends g sets [] so_far none = sym (append-nil (edges_of sets)) ∙ so_far.covers

@@ -15,6 +15,10 @@ as_keys list = map (λ e. (record { first = e.from; second = e.to }, tt)) list
 abbrev pub as_pairs : List (Pair64 × Unit {0}) → List (ℕ × ℕ)
 as_pairs keys = map (λ e. (e.0.first, e.0.second)) keys
 
+-- the ends of edges, as keys without values
+abbrev pub ends : List (ℕ × ℕ) → List (ℕ × Unit {0})
+ends g = map (λ e. (e.1, tt)) g
+
 -- how many edges at the start are from a vertex
 abbrev pub run : ℕ → List (ℕ × ℕ) → ℕ
 run u [] = 0

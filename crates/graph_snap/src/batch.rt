@@ -82,10 +82,10 @@ fn grouped<R: Threads + Sync, G: Gate>(
 {
     let mut sets = Vec::new(alloc);
     let mut rest = edges;
-    while let Some(first) = rest.first() {
-        let (run, later) = rest.split_at(run_length(rest, first.0));
+    while let Some(edge) = rest.first() {
+        let (run, later) = rest.split_at(run_length(rest, edge.0));
         let set = Neighbours::ends_of(rt, alloc, gate, cut, run)?;
-        sets.push((first.0, set))?;
+        sets.push((edge.0, set))?;
         rest = later;
     }
     Ok(sets)

@@ -6,7 +6,7 @@ ghost use Rattle.graph_snap.specs.Walks.{HasDistances, reach};
 use crate::batch::sets_of;
 use crate::edge::{Edge, Reached};
 use crate::search::search;
-use crate::vertices::{Vertices, recount, set_at, with_sets, without_sets};
+use crate::vertices::{Vertices, degree_at, recount, with_sets, without_sets};
 use aug_map::PlainMap;
 use aug_monoid::{NoMemory, Share};
 use fork_join::{Cut, Gate};
@@ -82,8 +82,7 @@ impl Graph {
     pub fn degree(&self, alloc: Global, vertex: u64) -> Result<u64, NoMemory>
         ensures { IfOk result (λ n. n ≡ length (out_neighbours self.now vertex)) }
     {
-        let set = set_at(alloc, &self.vertices, vertex)?;
-        Ok(set.size())
+        degree_at(alloc, &self.vertices, vertex)
     }
 
     /// The graph with these edges too. For k edges and n vertices it takes about k * log(n * k) work, which forks where the cut allows

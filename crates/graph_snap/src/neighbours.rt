@@ -1,11 +1,10 @@
 //! Sets of out-neighbours.
-ghost use Rattle.std.specs.Prelude.{◌≡◌, ◌<◌, [], length, map, IfOk};
+ghost use Rattle.std.specs.Prelude.{◌≡◌, ◌<◌, [], length, IfOk};
 ghost use Rattle.std.specs.Map.{keys_of};
 ghost use Rattle.std.specs.Ordering.{nat_cmp};
 ghost use Rattle.map_model.specs.Entries.{IsIncreasing};
 ghost use Rattle.map_model.specs.Operations.{after, build, dels};
-ghost use Rattle.graph_snap.specs.Batches.{has_elements, minus};
-ghost use Rattle.graph_snap.specs.Edges.{elements};
+ghost use Rattle.graph_snap.specs.Batches.{ends, has_elements, minus};
 ghost use Rattle.graph_snap.specs.Merging.{merged};
 
 use aug_map::CodedMap;
@@ -41,7 +40,7 @@ impl Share for Neighbours {
 
 // The ends of edges, as keys without values.
 fn ends(alloc: Global, run: &[(u64, u64)]) -> Result<Vec<(u64, ())>, NoMemory>
-    ensures { IfOk result (λ keys. keys.items ≡ elements (map (λ e. e.1) run.now)) }
+    ensures { IfOk result (λ keys. keys.items ≡ ends run.now) }
 {
     let keys = run.iter().map(|edge| (edge.1, ())).collect(alloc)?;
     Ok(keys)
@@ -80,7 +79,7 @@ impl Neighbours {
         cut: Cut,
         run: &[(u64, u64)],
     ) -> Result<Neighbours, NoMemory>
-        ensures { IfOk result (λ set. set ≡ build nat_cmp (elements (map (λ e. e.1) run.now))) }
+        ensures { IfOk result (λ set. set ≡ build nat_cmp (ends run.now)) }
     {
         let keys = ends(alloc, run)?;
         let set = CodedMap::build(rt, alloc, gate, cut, &keys)?;
@@ -131,7 +130,12 @@ pub(crate) struct Merge;
 impl Resolve<Neighbours> for Merge {
     ghost resolved = { λ _ a b. merged a b };
 
-    fn resolve(&self, alloc: Global, a: &Neighbours, b: &Neighbours) -> Result<Neighbours, NoMemory> {
+    fn resolve(
+        &self,
+        alloc: Global,
+        a: &Neighbours,
+        b: &Neighbours,
+    ) -> Result<Neighbours, NoMemory> {
         a.merged(alloc, b)
     }
 }
@@ -143,7 +147,12 @@ pub(crate) struct Minus;
 impl Resolve<Neighbours> for Minus {
     ghost resolved = { λ _ a b. minus a b };
 
-    fn resolve(&self, alloc: Global, a: &Neighbours, b: &Neighbours) -> Result<Neighbours, NoMemory> {
+    fn resolve(
+        &self,
+        alloc: Global,
+        a: &Neighbours,
+        b: &Neighbours,
+    ) -> Result<Neighbours, NoMemory> {
         a.minus(alloc, b)
     }
 }

@@ -115,9 +115,15 @@ fn a_search_by_the_shortest_way(rt: HostRuntime) -> Result<(), Fail> {
     let alloc = rt.alloc();
     let edges = [(5, 1), (1, 2), (2, 3), (3, 4), (1, 4), (4, 5), (7, 8)];
     let all = found(&rt, alloc, &edges, &[], 1)?;
-    assert_eq!(rt; all.as_slice(), [(1, 0), (2, 1), (3, 2), (4, 1), (5, 2)].as_slice());
+    assert_eq!(rt;
+        all.as_slice(),
+        [(1, 0), (2, 1), (3, 2), (4, 1), (5, 2)].as_slice()
+    );
     let left = found(&rt, alloc, &edges, &[(1, 4), (8, 7)], 1)?;
-    assert_eq!(rt; left.as_slice(), [(1, 0), (2, 1), (3, 2), (4, 3), (5, 4)].as_slice());
+    assert_eq!(rt;
+        left.as_slice(),
+        [(1, 0), (2, 1), (3, 2), (4, 3), (5, 4)].as_slice()
+    );
     let alone = found(&rt, alloc, &edges, &[], 8)?;
     assert_eq!(rt; alone.as_slice(), [(8, 0)].as_slice());
     Ok(())

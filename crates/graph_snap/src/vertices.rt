@@ -1,5 +1,5 @@
 //! The map from vertices to their sets of out-neighbours.
-ghost use Rattle.std.specs.Prelude.{◌≡◌, ◌<◌, length, IfOk};
+ghost use Rattle.std.specs.Prelude.{◌≡◌, ◌+◌, ◌-◌, ◌<◌, ◌≤◌, length, IfOk};
 ghost use Rattle.graph_snap.specs.Batches.{AreAlikeBut};
 ghost use Rattle.graph_snap.specs.Edges.{AreSets, edges_of, set_at, with_edges, without_edges};
 
@@ -45,6 +45,14 @@ pub(crate) fn set_at(
     set_counted::<Brand>(alloc, vertices, vertex, Blank::new(1))
 }
 
+/// How many elements the set of a vertex has.
+pub(crate) fn degree_at(alloc: Global, vertices: &Vertices, vertex: u64) -> Result<u64, NoMemory>
+    ensures { IfOk result (λ n. n ≡ length (set_at vertices.now.entries vertex)) }
+{
+    let set = set_at(alloc, vertices, vertex)?;
+    Ok(set.size())
+}
+
 /// The map with the edges of another one too.
 pub(crate) fn with_sets<R: Threads + Sync, G: Gate>(
     rt: &R,
@@ -84,8 +92,18 @@ pub(crate) fn without_sets<R: Threads + Sync, G: Gate>(
     others.union(rt, alloc, gate, cut, &left, &First)
 }
 
-/// How many edges a map has that differs from another one at these vertices alone. So many that they are no `u64` are want of
-/// memory.
+// A number of edges where some are exchanged for others. That it is no `u64` is want of memory.
+fn exchanged(count: u64, old: u64, new: u64) -> Result<u64, NoMemory>
+    requires { old ≤ count }
+    ensures { IfOk result (λ more. more ≡ count - old + new) }
+{
+    match (count - old).checked_add(new) {
+        Some(more) => Ok(more),
+        None => Err(NoMemory),
+    }
+}
+
+/// How many edges a map has that differs from another one at these vertices alone.
 pub(crate) fn recount(
     alloc: Global,
     before: &Vertices,
@@ -102,9 +120,9 @@ pub(crate) fn recount(
 {
     let mut count = edges;
     for (vertex, _) in changed {
-        let old = set_at(alloc, before, *vertex)?;
-        let new = set_at(alloc, after, *vertex)?;
-        count = (count - old.size()).checked_add(new.size()).ok_or(NoMemory)?;
+        let old = degree_at(alloc, before, *vertex)?;
+        let degree = degree_at(alloc, after, *vertex)?;
+        count = exchanged(count, old, degree)?;
     }
     Ok(count)
 }
