@@ -7,3 +7,4 @@ pub mod Runs
 pub mod Recounts
 pub mod Batched
 pub mod Distances
+pub mod Removals

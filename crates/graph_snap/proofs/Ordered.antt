@@ -31,6 +31,12 @@ set_within sets u are = let e = length-replace sets u [] are in omega (arith, e)
 pub out_is : (sets : Sets) (g : List (ℕ × ℕ)) (u n : ℕ) → edges_of sets ≡ g → AreSets sets → n ≡ length (set_at sets u) → n ≡ length (out_neighbours g u)
 out_is sets g u n is are m = m ∙ sym (length-out sets u are) ∙ ap (λ h. length (out_neighbours h u)) is
 
+-- one vertex more of a front
+pub near_more : (sets : Sets) (front : List (ℕ × ℕ)) (i : ℕ) (d : ℕ × ℕ) (near set next : List (ℕ × Unit {0})) → i < length front → near ≡ neighbours_of sets (take i front) → set ≡ set_in_order sets (get_or front i d).0 → next ≡ merged near set → next ≡ neighbours_of sets (take (i + 1) front)
+near_more sets front i d near set next h is s n =
+    let e : ℕ × ℕ = get_or front i d in
+    n ∙ ap₂ merged is s ∙ sym (fold-take_more merged_monoid (λ (u w : ℕ). in_order_fits sets u) front i e h (get_or_default front i d e h))
+
 pub next_is : (sets : Sets) (front found : List (ℕ × ℕ)) (d : ℕ) (pairs shown near next : List (ℕ × ℕ)) → pairs ≡ at_distance d (neighbours_of sets front) → shown ≡ pairs → near ≡ build nat_cmp shown → next ≡ difference nat_cmp near found → next ≡ next_front sets front found d
 next_is sets front found d pairs shown near next p s m n =
     n ∙ ap (λ x. difference nat_cmp x found) (m ∙ ap (build nat_cmp) (s ∙ p) ∙ built_at_distance sets front d)

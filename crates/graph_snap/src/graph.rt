@@ -1,6 +1,7 @@
 //! Graphs, which no call changes.
 ghost use Rattle.std.specs.Prelude.{◌≡◌, [], length, IfOk};
-ghost use Rattle.graph_snap.specs.Edges.{AreSets, IsGraph, edges_of, out_neighbours, pairs_of, sources, with_edges, without_edges};
+ghost use Rattle.graph_snap.specs.Edges.{AreSets, IsGraph, edges_of, out_neighbours, pairs_of, sources};
+ghost use Rattle.graph_snap.specs.Edges.{with_edges, without_edges};
 ghost use Rattle.graph_snap.specs.Walks.{HasDistances, reach};
 
 use crate::batch::sets_of;
@@ -85,8 +86,8 @@ impl Graph {
         degree_at(alloc, &self.vertices, vertex)
     }
 
-    /// The graph with these edges too. For k edges and n vertices it takes about k * log(n * k) work, which forks where the cut allows
-    /// it.
+    /// The graph with these edges too. For k edges and n vertices it takes about k * log(n * k) work, which forks where the cut
+    /// allows it, but for the grouping by vertex.
     pub fn add_edges<R: Threads + Sync, G: Gate>(
         &self,
         rt: &R,
@@ -122,9 +123,8 @@ impl Graph {
         Ok(Graph { vertices, edges })
     }
 
-    /// The vertices that walks from `from` reach, in order, each with the least number of edges of such a walk; `from` itself is at
-    /// 0. For each distance it unites the sets of the vertices there, by halves that fork where the cut allows it; for m edges from
-    /// n reached vertices it takes about m * log n work.
+    /// The vertices that walks from `from` reach, in order, each with the least number of edges of such a walk; `from` itself is
+    /// at 0. For each distance it unites the sets of out-neighbours of the vertices there, one after another.
     pub fn bfs<R: Threads + Sync, G: Gate>(
         &self,
         rt: &R,
