@@ -5,7 +5,7 @@ use Rattle.std.specs.Ordering.{nat_cmp}
 use Rattle.map_model.specs.Entries.{lookup}
 use Rattle.map_model.specs.Operations.{after, dels}
 use Rattle.aug_monoid.specs.declared.pair64.Pair64.{Pair64}
-use Rattle.graph_snap.specs.Edges.{Sets}
+use Rattle.graph_snap.specs.Edges.{Sets, edges_of, with_edges, without_edges}
 use Rattle.graph_snap.specs.declared.edge.Edge.{Edge}
 
 -- edges as keys without values, and back
@@ -30,6 +30,14 @@ minus a b = after nat_cmp a (dels (keys_of b))
 
 abbrev pub has_elements : List (ℕ × Unit {0}) → Bool
 has_elements ns = not (length ns == 0)
+
+-- a map of sets has the edges of both others
+abbrev pub IsUnited : Sets → Sets → Sets → Type 0
+IsUnited a b both = edges_of both ≡ with_edges (edges_of a) (edges_of b)
+
+-- a map of sets has the edges of a that b hasn't
+abbrev pub IsLessened : Sets → Sets → Sets → Type 0
+IsLessened a b left = edges_of left ≡ without_edges (edges_of a) (edges_of b)
 
 -- two maps of sets have the same set at each vertex that changed hasn't
 abbrev pub AreAlikeBut : Sets → Sets → Sets → Type 0

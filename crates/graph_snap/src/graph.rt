@@ -15,8 +15,8 @@ use std::alloc::Global;
 use std::marker::{Model, Sync};
 use std::thread::Threads;
 
-/// A directed graph, seen as the list of its edges by their first vertex and then by their second. A vertex without edges is not
-/// part of it.
+/// A directed graph, seen as the list of its edges by their first vertex and then by their second. A vertex without edges is
+/// not part of it.
 #[derive(Drop)]
 pub struct Graph {
     vertices: Vertices,

@@ -1,7 +1,7 @@
 //! The map from vertices to their sets of out-neighbours.
 ghost use Rattle.std.specs.Prelude.{◌≡◌, ◌+◌, ◌-◌, ◌<◌, ◌≤◌, length, IfOk};
-ghost use Rattle.graph_snap.specs.Batches.{AreAlikeBut};
-ghost use Rattle.graph_snap.specs.Edges.{AreSets, edges_of, set_at, with_edges, without_edges};
+ghost use Rattle.graph_snap.specs.Batches.{AreAlikeBut, IsLessened, IsUnited};
+ghost use Rattle.graph_snap.specs.Edges.{AreSets, edges_of, set_at};
 
 use crate::neighbours::{HasElements, Merge, Minus, Neighbours};
 use aug_map::PlainMap;
@@ -65,7 +65,7 @@ pub(crate) fn with_sets<R: Threads + Sync, G: Gate>(
     requires vertices { AreSets vertices.now.entries }
     requires batch { AreSets batch.now.entries }
     ensures sets { IfOk result (λ map. AreSets map.entries) }
-    ensures edges { IfOk result (λ map. edges_of map.entries ≡ with_edges (edges_of vertices.now.entries) (edges_of batch.now.entries)) }
+    ensures edges { IfOk result (λ map. IsUnited vertices.now.entries batch.now.entries map.entries) }
     ensures others { IfOk result (λ map. AreAlikeBut batch.now.entries vertices.now.entries map.entries) }
 {
     vertices.union(rt, alloc, gate, cut, batch, &Merge)
@@ -83,7 +83,7 @@ pub(crate) fn without_sets<R: Threads + Sync, G: Gate>(
     requires vertices { AreSets vertices.now.entries }
     requires batch { AreSets batch.now.entries }
     ensures sets { IfOk result (λ map. AreSets map.entries) }
-    ensures edges { IfOk result (λ map. edges_of map.entries ≡ without_edges (edges_of vertices.now.entries) (edges_of batch.now.entries)) }
+    ensures edges { IfOk result (λ map. IsLessened vertices.now.entries batch.now.entries map.entries) }
     ensures others { IfOk result (λ map. AreAlikeBut batch.now.entries vertices.now.entries map.entries) }
 {
     let changed = vertices.intersect(rt, alloc, gate, cut, batch, &Minus)?;
