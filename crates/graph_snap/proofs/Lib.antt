@@ -3,3 +3,8 @@ pub mod Sets
 pub mod Counts
 pub mod Fronts
 pub mod Ordered
+pub mod Runs
+pub mod Recounts
+pub mod Batched
+pub mod Distances
+pub mod Removals

@@ -22,7 +22,7 @@ use Rattle.std.proofs.lemmas.Bool.{false≢true}
 use Rattle.std.proofs.lemmas.Option.{none-some, same_Some}
 use Rattle.std.proofs.lemmas.List.Elements.{filter-append}
 use Rattle.std.proofs.lemmas.Grind.{flat_map-append}
-use Rattle.graph_snap.specs.Edges.{AreSets, IsFilled, IsGraph, Sets, edge_order, edges_of, elements, out_neighbours, replace, set_at, sources, with_edges, without_edges}
+use Rattle.graph_snap.specs.Edges.{AreSets, IsFilled, IsGraph, Sets, edge_order, edges_of, elements, out_neighbours, set_at, sources, with_edges, without_edges}
 
 pub edge_total : IsTotalOrder edge_order
 edge_total = then_total (on_total (λ (e : ℕ × ℕ). e.0) nat_cmp_total) (on_total (λ (e : ℕ × ℕ). e.1) nat_cmp_total)
@@ -149,30 +149,19 @@ module _ (g list : List (ℕ × ℕ)) where
       ap (λ m. lookup edge_order m k) (elements-keys (after edge_order (elements g) (dels list)))
       ∙ lookup-after_dels edge_total edge_exact list (elements g) k
 
--- one batch after another
-pub with_edges-append : (g a b : List (ℕ × ℕ)) → with_edges g (a ++ b) ≡ with_edges (with_edges g a) b
-with_edges-append g a b =
-    ap keys_of (
-    ap (λ m. after edge_order (elements g) (puts m)) (map-append (λ (k : ℕ × ℕ). let e : (ℕ × ℕ) × Unit {0} = (k, tt) in e) a b)
-    ∙ ap (after edge_order (elements g)) (map-append _ (elements a) (elements b))
-    ∙ after-append edge_order (puts (elements a)) (puts (elements b)) (elements g)
-    ∙ ap (λ m. after edge_order m (puts (elements b))) (sym (elements-keys (after edge_order (elements g) (puts (elements a))))))
-
-pub without_edges-append : (g a b : List (ℕ × ℕ)) → without_edges g (a ++ b) ≡ without_edges (without_edges g a) b
-without_edges-append g a b =
-    ap keys_of (
-    ap (after edge_order (elements g)) (map-append _ a b)
-    ∙ after-append edge_order (dels a) (dels b) (elements g)
-    ∙ ap (λ m. after edge_order m (dels b)) (sym (elements-keys (after edge_order (elements g) (dels a)))))
-
 -- ---- one set replaced
 
-abbrev filled_or_none : List (ℕ × Unit {0}) → Option (List (ℕ × Unit {0}))
+-- the map with this set at a vertex, which is no key where the set is empty
+abbrev pub replace : Sets → ℕ → List (ℕ × Unit {0}) → Sets
+replace sets u [] = drop_key nat_cmp sets u
+replace sets u (n ∷ ns) = set nat_cmp sets u (n ∷ ns)
+
+abbrev pub filled_or_none : List (ℕ × Unit {0}) → Option (List (ℕ × Unit {0}))
 filled_or_none [] = None
 filled_or_none (n ∷ ns) = Some (n ∷ ns)
 
 module _ (sets : Sets) (u : ℕ) where
-  found-replace : (ns : List (ℕ × Unit {0})) (q : ℕ) → lookup nat_cmp (replace sets u ns) q ≡ cond (is_eq (nat_cmp u q)) (filled_or_none ns) (lookup nat_cmp sets q)
+  pub found-replace : (ns : List (ℕ × Unit {0})) (q : ℕ) → lookup nat_cmp (replace sets u ns) q ≡ cond (is_eq (nat_cmp u q)) (filled_or_none ns) (lookup nat_cmp sets q)
   found-replace [] q =
       lookup-drop_key nat_exact sets u q
       ∙ by_order nat_cmp q u
@@ -208,57 +197,8 @@ module _ (sets : Sets) (u : ℕ) where
       ap (λ w. lookup nat_cmp (set_at sets w) v) (nat_exact u q is)
       ∙ elim (lookup nat_cmp sets q) as (λ o. lookup nat_cmp (unwrap_or o []) v ≡ option_and_then (λ ns. lookup nat_cmp ns v) o) [ None ↦ refl | Some ns ↦ refl ]
 
-  found-from : (ts : List ℕ) (q v : ℕ) → lookup edge_order (elements (map (λ t. (u, t)) ts)) (q, v) ≡ cond (is_eq (nat_cmp u q)) (lookup nat_cmp (elements ts) v) None
-  found-from ts q v = ap (λ m. lookup edge_order (elements m) (q, v)) (fan-elements ts) ∙ found-fan u q v (elements ts)
-    where
-      fan-elements : (ts : List ℕ) → map (λ t. let e : ℕ × ℕ = (u, t) in e) ts ≡ fan u (elements ts)
-      fan-elements [] = refl
-      fan-elements (t ∷ ts) = ap (λ m. (u, t) ∷ m) (fan-elements ts)
-
-  any-from : (ts : List ℕ) (q v : ℕ) → list_any (λ e. is_eq (edge_order e (q, v))) (map (λ t. (u, t)) ts) ≡ cond (is_eq (nat_cmp u q)) (list_any (λ k. is_eq (nat_cmp k v)) ts) false
-  any-from [] q v = elim (is_eq (nat_cmp u q)) as (λ b. false ≡ cond b false false) [ true ↦ refl | false ↦ refl ]
-  any-from (t ∷ ts) q v =
-      ap (λ b. is_eq (ordering_then (nat_cmp u q) (nat_cmp t v)) || b) (any-from ts q v)
-      ∙ elim (nat_cmp u q) as (λ o. (is_eq (ordering_then o (nat_cmp t v)) || cond (is_eq o) (list_any (λ k. is_eq (nat_cmp k v)) ts) false) ≡ cond (is_eq o) (is_eq (nat_cmp t v) || list_any (λ k. is_eq (nat_cmp k v)) ts) false) [ Less ↦ refl | Equal ↦ refl | Greater ↦ refl ]
-
   pub set_rises : AreSets sets → IsIncreasing nat_cmp (set_at sets u)
   set_rises are = elim (lookup nat_cmp sets u) as (λ o. lookup nat_cmp sets u ≡ o → IsIncreasing nat_cmp (unwrap_or o [])) [ None ↦ λ _. tt | Some ns ↦ λ is. (are.filled u ns is).increasing ] refl
-
-  -- out-neighbours put into the set of a vertex are edges put into the graph
-  pub added : (ts : List ℕ) → AreSets sets → edges_of (replace sets u (after nat_cmp (set_at sets u) (puts (elements ts)))) ≡ with_edges (edges_of sets) (map (λ t. (u, t)) ts)
-  added ts are =
-      let ns = after nat_cmp (set_at sets u) (puts (elements ts)) in
-      let are' = sets-replace ns are (IsIncreasing-after nat_cmp_total (puts (elements ts)) (set_at sets u) (set_rises are)) in
-      let g = edges_of sets in
-      let list = map (λ t. let e : ℕ × ℕ = (u, t) in e) ts in
-      same_graphs (edges_of (replace sets u ns)) (with_edges g list) (graph-edges_of (replace sets u ns) are') (graph-with_edges g list (graph-edges_of sets are)) (λ q v.
-      found-edges_of (replace sets u ns) q v are'.increasing
-      ∙ edge-replace ns q v
-      ∙ ap (λ o. cond (is_eq (nat_cmp u q)) o (edge_in sets q v)) (lookup-after_puts nat_cmp_total nat_exact (elements ts) (set_at sets u) v ∙ ap (λ o. option_or o (lookup nat_cmp (set_at sets u) v)) (last-element nat_cmp (elements ts) v))
-      ∙ elim (nat_cmp u q) as (λ o. nat_cmp u q ≡ o → cond (is_eq o) (option_or (lookup nat_cmp (elements ts) v) (lookup nat_cmp (set_at sets u) v)) (edge_in sets q v) ≡ option_or (cond (is_eq o) (lookup nat_cmp (elements ts) v) None) (edge_in sets q v)) [
-        | Less ↦ λ _. refl
-        | Equal ↦ λ is. ap (option_or (lookup nat_cmp (elements ts) v)) (found-set_at q v is)
-        | Greater ↦ λ _. refl
-      ] refl
-      ∙ sym (found-with_edges g list (q, v) ∙ ap₂ option_or (found-from ts q v) (found-edges_of sets q v are.increasing)))
-
-  -- out-neighbours taken from the set of a vertex are edges taken from the graph
-  pub removed : (ts : List ℕ) → AreSets sets → edges_of (replace sets u (after nat_cmp (set_at sets u) (dels ts))) ≡ without_edges (edges_of sets) (map (λ t. (u, t)) ts)
-  removed ts are =
-      let ns = after nat_cmp (set_at sets u) (dels ts) in
-      let are' = sets-replace ns are (IsIncreasing-after nat_cmp_total (dels ts) (set_at sets u) (set_rises are)) in
-      let g = edges_of sets in
-      let list = map (λ t. let e : ℕ × ℕ = (u, t) in e) ts in
-      same_graphs (edges_of (replace sets u ns)) (without_edges g list) (graph-edges_of (replace sets u ns) are') (graph-without_edges g list (graph-edges_of sets are)) (λ q v.
-      found-edges_of (replace sets u ns) q v are'.increasing
-      ∙ edge-replace ns q v
-      ∙ ap (λ o. cond (is_eq (nat_cmp u q)) o (edge_in sets q v)) (lookup-after_dels nat_cmp_total nat_exact ts (set_at sets u) v)
-      ∙ elim (nat_cmp u q) as (λ o. nat_cmp u q ≡ o → cond (is_eq o) (cond (list_any (λ k. is_eq (nat_cmp k v)) ts) None (lookup nat_cmp (set_at sets u) v)) (edge_in sets q v) ≡ cond (cond (is_eq o) (list_any (λ k. is_eq (nat_cmp k v)) ts) false) None (edge_in sets q v)) [
-        | Less ↦ λ _. refl
-        | Equal ↦ λ is. ap (cond (list_any (λ k. is_eq (nat_cmp k v)) ts) None) (found-set_at q v is)
-        | Greater ↦ λ _. refl
-      ] refl
-      ∙ sym (found-without_edges g list (q, v) ∙ ap₂ (λ b o. cond b None o) (any-from ts q v) (found-edges_of sets q v are.increasing)))
 
   -- ---- how many edges there are
 

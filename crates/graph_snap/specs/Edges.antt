@@ -5,7 +5,7 @@ use Rattle.std.specs.Map.{keys_of}
 use Rattle.std.specs.Option.{unwrap_or}
 use Rattle.std.specs.declared.cmp.Ordering.{Ordering}
 use Rattle.std.specs.Ordering.{nat_cmp, ordering_then}
-use Rattle.map_model.specs.Entries.{IsIncreasing, drop_key, lookup, set}
+use Rattle.map_model.specs.Entries.{IsIncreasing, lookup}
 use Rattle.map_model.specs.Operations.{after, build, dels, puts}
 use Rattle.graph_snap.specs.declared.edge.Edge.{Edge}
 
@@ -60,8 +60,3 @@ pub record AreSets (sets : Sets) : Type 0 where
 -- the set of a vertex
 abbrev pub set_at : Sets → ℕ → List (ℕ × Unit {0})
 set_at sets u = unwrap_or (lookup nat_cmp sets u) []
-
--- the map with this set at a vertex, which is no key where the set is empty
-abbrev pub replace : Sets → ℕ → List (ℕ × Unit {0}) → Sets
-replace sets u [] = drop_key nat_cmp sets u
-replace sets u (n ∷ ns) = set nat_cmp sets u (n ∷ ns)

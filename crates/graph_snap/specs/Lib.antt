@@ -1,3 +1,4 @@
 pub mod Edges
 pub mod Walks
 pub mod Merging
+pub mod Batches

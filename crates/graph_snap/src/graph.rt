@@ -1,12 +1,13 @@
 //! Graphs, which no call changes.
-ghost use Rattle.std.specs.Prelude.{◌≡◌, [], length, map, IfOk};
-ghost use Rattle.graph_snap.specs.Edges.{AreSets, IsGraph, edges_of, out_neighbours, pairs_of, replace, set_at, sources, with_edges, without_edges};
-ghost use Rattle.graph_snap.specs.Walks.{reach};
+ghost use Rattle.std.specs.Prelude.{◌≡◌, [], length, IfOk};
+ghost use Rattle.graph_snap.specs.Edges.{AreSets, IsGraph, edges_of, out_neighbours, pairs_of, sources};
+ghost use Rattle.graph_snap.specs.Edges.{with_edges, without_edges};
+ghost use Rattle.graph_snap.specs.Walks.{HasDistances, reach};
 
+use crate::batch::sets_of;
 use crate::edge::{Edge, Reached};
-use crate::neighbours::Neighbours;
 use crate::search::search;
-use crate::vertices::{Vertices, replace, set_at};
+use crate::vertices::{Vertices, degree_at, recount, with_sets, without_sets};
 use aug_map::PlainMap;
 use aug_monoid::{NoMemory, Share};
 use fork_join::{Cut, Gate};
@@ -14,8 +15,8 @@ use std::alloc::Global;
 use std::marker::{Model, Sync};
 use std::thread::Threads;
 
-/// A directed graph, seen as the list of its edges by their first vertex and then by their second. A vertex without edges is not
-/// part of it.
+/// A directed graph, seen as the list of its edges by their first vertex and then by their second. A vertex without edges is
+/// not part of it.
 #[derive(Drop)]
 pub struct Graph {
     vertices: Vertices,
@@ -31,28 +32,6 @@ impl Model for Graph {
     ghost view = { λ g. edges_of g.vertices.entries };
 
     ghost invariant = { λ g. AreSets g.vertices.entries × (g.edges ≡ length (edges_of g.vertices.entries)) };
-}
-
-// The graph of vertices with one set replaced. So many edges that they are no `u64` are want of memory.
-fn with_set(
-    alloc: Global,
-    vertices: &Vertices,
-    edges: u64,
-    from: u64,
-    old: u64,
-    set: Neighbours,
-) -> Result<Graph, NoMemory>
-    requires sets { AreSets vertices.now.entries }
-    requires edges { edges ≡ length (edges_of vertices.now.entries) }
-    requires old { old ≡ length (set_at vertices.now.entries from) }
-    ensures { IfOk result (λ graph. graph ≡ edges_of (replace vertices.now.entries from set)) }
-{
-    let size = set.size();
-    let vertices = replace(alloc, vertices, from, set)?;
-    match (edges - old).checked_add(size) {
-        Some(edges) => Ok(Graph { vertices, edges }),
-        None => Err(NoMemory),
-    }
 }
 
 impl Graph {
@@ -104,45 +83,11 @@ impl Graph {
     pub fn degree(&self, alloc: Global, vertex: u64) -> Result<u64, NoMemory>
         ensures { IfOk result (λ n. n ≡ length (out_neighbours self.now vertex)) }
     {
-        let set = set_at(alloc, &self.vertices, vertex)?;
-        Ok(set.size())
+        degree_at(alloc, &self.vertices, vertex)
     }
 
-    // The graph with edges from one vertex.
-    fn with_targets<R: Threads + Sync, G: Gate>(
-        &self,
-        rt: &R,
-        alloc: Global,
-        gate: &G,
-        cut: Cut,
-        from: u64,
-        targets: &[u64],
-    ) -> Result<Graph, NoMemory>
-        ensures { IfOk result (λ graph. graph ≡ with_edges self.now (map (λ t. (from, t)) targets.now)) }
-    {
-        let old = set_at(alloc, &self.vertices, from)?;
-        let set = old.with(rt, alloc, gate, cut, targets)?;
-        with_set(alloc, &self.vertices, self.edges, from, old.size(), set)
-    }
-
-    // The graph without edges from one vertex.
-    fn without_targets<R: Threads + Sync, G: Gate>(
-        &self,
-        rt: &R,
-        alloc: Global,
-        gate: &G,
-        cut: Cut,
-        from: u64,
-        targets: &[u64],
-    ) -> Result<Graph, NoMemory>
-        ensures { IfOk result (λ graph. graph ≡ without_edges self.now (map (λ t. (from, t)) targets.now)) }
-    {
-        let old = set_at(alloc, &self.vertices, from)?;
-        let set = old.without(rt, alloc, gate, cut, targets)?;
-        with_set(alloc, &self.vertices, self.edges, from, old.size(), set)
-    }
-
-    /// The graph with these edges too, in time logarithmic in the number of vertices for each.
+    /// The graph with these edges too. For k edges and n vertices it takes about k * log(n * k) work, which forks where the cut
+    /// allows it, but for the grouping by vertex.
     pub fn add_edges<R: Threads + Sync, G: Gate>(
         &self,
         rt: &R,
@@ -153,14 +98,14 @@ impl Graph {
     ) -> Result<Graph, NoMemory>
         ensures { IfOk result (λ graph. graph ≡ with_edges self.now (pairs_of list.now)) }
     {
-        let mut graph = self.share(alloc)?;
-        for edge in list {
-            graph = graph.with_targets(rt, alloc, gate, cut, edge.from, &[edge.to])?;
-        }
-        Ok(graph)
+        let changed = sets_of(rt, alloc, gate, cut, list)?;
+        let batch = Vertices::build(rt, alloc, gate, cut, &changed)?;
+        let vertices = with_sets(rt, alloc, gate, cut, &self.vertices, &batch)?;
+        let edges = recount(alloc, &self.vertices, &vertices, self.edges, &changed)?;
+        Ok(Graph { vertices, edges })
     }
 
-    /// The graph without these edges, which need not be there, in time logarithmic in the number of vertices for each.
+    /// The graph without these edges, which need not be there, in the time of `add_edges`.
     pub fn cut_edges<R: Threads + Sync, G: Gate>(
         &self,
         rt: &R,
@@ -171,15 +116,15 @@ impl Graph {
     ) -> Result<Graph, NoMemory>
         ensures { IfOk result (λ graph. graph ≡ without_edges self.now (pairs_of list.now)) }
     {
-        let mut graph = self.share(alloc)?;
-        for edge in list {
-            graph = graph.without_targets(rt, alloc, gate, cut, edge.from, &[edge.to])?;
-        }
-        Ok(graph)
+        let changed = sets_of(rt, alloc, gate, cut, list)?;
+        let batch = Vertices::build(rt, alloc, gate, cut, &changed)?;
+        let vertices = without_sets(rt, alloc, gate, cut, &self.vertices, &batch)?;
+        let edges = recount(alloc, &self.vertices, &vertices, self.edges, &changed)?;
+        Ok(Graph { vertices, edges })
     }
 
-    /// The vertices that walks from `from` reach, in order, each with the least number of edges of such a walk; `from` itself is at
-    /// 0. It merges the sets of out-neighbours of the vertices at each distance.
+    /// The vertices that walks from `from` reach, in order, each with the least number of edges of such a walk; `from` itself is
+    /// at 0. For each distance it unites the sets of out-neighbours of the vertices there, one after another.
     pub fn bfs<R: Threads + Sync, G: Gate>(
         &self,
         rt: &R,
@@ -188,7 +133,8 @@ impl Graph {
         cut: Cut,
         from: u64,
     ) -> Result<Vec<Reached>, NoMemory>
-        ensures { IfOk result (λ found. found.items ≡ reach self.now from) }
+        ensures value { IfOk result (λ found. found.items ≡ reach self.now from) }
+        ensures least { IfOk result (λ found. HasDistances self.now from found.items) }
     {
         search(rt, alloc, gate, cut, &self.vertices, from)
     }

@@ -1,10 +1,13 @@
 //! Snapshots of a directed graph: maps from vertices to their sets of out-neighbours.
 #![tactic(auto)]
 
+mod batch;
 mod edge;
 mod graph;
 mod neighbours;
 mod search;
+#[cfg(test)]
+mod tests;
 mod vertices;
 
 pub use edge::{Edge, Reached};

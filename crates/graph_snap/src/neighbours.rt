@@ -1,16 +1,18 @@
 //! Sets of out-neighbours.
-ghost use Rattle.std.specs.Prelude.{◌≡◌, ◌<◌, [], length, IfOk, IsNone};
+ghost use Rattle.std.specs.Prelude.{◌≡◌, ◌<◌, [], length, IfOk};
+ghost use Rattle.std.specs.Map.{keys_of};
 ghost use Rattle.std.specs.Ordering.{nat_cmp};
 ghost use Rattle.map_model.specs.Entries.{IsIncreasing};
-ghost use Rattle.map_model.specs.Operations.{after, dels, puts};
-ghost use Rattle.map_model.specs.SetOperations.{union};
-ghost use Rattle.graph_snap.specs.Edges.{elements};
+ghost use Rattle.map_model.specs.Operations.{after, build, dels};
+ghost use Rattle.graph_snap.specs.Batches.{ends, has_elements, minus};
+ghost use Rattle.graph_snap.specs.Merging.{merged};
 
 use aug_map::CodedMap;
-use aug_monoid::{First, NoMemory, Nothing, Resolve, Share};
+use aug_monoid::{First, NoMemory, Nothing, Resolve, Share, Steps, Test};
 use fork_join::{Cut, Gate};
 use std::alloc::Global;
-use std::marker::{Model, Sync};
+use std::marker::{Brand, Model, Sync};
+use std::sync::ledger::{Blank, Ledger};
 use std::thread::Threads;
 
 /// The set of a vertex's out-neighbours, as the keys of a map.
@@ -36,12 +38,12 @@ impl Share for Neighbours {
     }
 }
 
-// Each of these as a key without a value.
-fn as_keys(alloc: Global, list: &[u64]) -> Result<Vec<(u64, ())>, NoMemory>
-    ensures { IfOk result (λ pairs. pairs.items ≡ elements list.now) }
+// The ends of edges, as keys without values.
+fn ends(alloc: Global, run: &[(u64, u64)]) -> Result<Vec<(u64, ())>, NoMemory>
+    ensures { IfOk result (λ keys. keys.items ≡ ends run.now) }
 {
-    let pairs = list.iter().map(|vertex| (*vertex, ())).collect(alloc)?;
-    Ok(pairs)
+    let keys = run.iter().map(|edge| (edge.1, ())).collect(alloc)?;
+    Ok(keys)
 }
 
 impl Neighbours {
@@ -69,42 +71,100 @@ impl Neighbours {
         self.set.size()
     }
 
-    /// The set with these elements.
-    pub(crate) fn with<R: Threads + Sync, G: Gate>(
-        &self,
+    /// The set of the ends of edges.
+    pub(crate) fn ends_of<R: Threads + Sync, G: Gate>(
         rt: &R,
         alloc: Global,
         gate: &G,
         cut: Cut,
-        list: &[u64],
+        run: &[(u64, u64)],
     ) -> Result<Neighbours, NoMemory>
-        ensures { IfOk result (λ set. set ≡ after nat_cmp self.now (puts (elements list.now))) }
+        ensures { IfOk result (λ set. set ≡ build nat_cmp (ends run.now)) }
     {
-        let pairs = as_keys(alloc, list)?;
-        let set = self.set.multi_put(rt, alloc, gate, cut, &pairs)?;
-        Ok(Neighbours { set })
-    }
-
-    /// The set without these elements.
-    pub(crate) fn without<R: Threads + Sync, G: Gate>(
-        &self,
-        rt: &R,
-        alloc: Global,
-        gate: &G,
-        cut: Cut,
-        list: &[u64],
-    ) -> Result<Neighbours, NoMemory>
-        ensures { IfOk result (λ set. set ≡ after nat_cmp self.now (dels list.now)) }
-    {
-        let set = self.set.multi_del(rt, alloc, gate, cut, list)?;
+        let keys = ends(alloc, run)?;
+        let set = CodedMap::build(rt, alloc, gate, cut, &keys)?;
         Ok(Neighbours { set })
     }
 
     /// The elements of either set.
     pub(crate) fn merged(&self, alloc: Global, other: &Neighbours) -> Result<Neighbours, NoMemory>
-        ensures { IfOk result (λ set. set ≡ union nat_cmp (λ a b. a) self.now other.now) }
+        ensures { IfOk result (λ set. set ≡ merged self.now other.now) }
     {
         let set = CodedMap::merge(alloc, &self.set, &other.set, &First)?;
         Ok(Neighbours { set })
+    }
+
+    /// The elements that the other set hasn't.
+    fn minus(&self, alloc: Global, other: &Neighbours) -> Result<Neighbours, NoMemory>
+        ensures { IfOk result (λ set. set ≡ minus self.now other.now) }
+    {
+        let elements = other.set.to_vec(alloc)?;
+        minus_counted::<Brand>(alloc, self, &elements, Blank::new(1))
+    }
+}
+
+// A set without some elements, with a counter that the caller gives up.
+fn minus_counted<C: Ledger>(
+    alloc: Global,
+    from: &Neighbours,
+    elements: &[(u64, ())],
+    blank: Blank,
+) -> Result<Neighbours, NoMemory>
+    requires name { blank.name ≡ C.name }
+    requires parts { blank.parts ≡ C.parts }
+    requires some { 0 < blank.parts }
+    ensures { IfOk result (λ left. left ≡ after nat_cmp from.now (dels (keys_of elements.now))) }
+{
+    let mut steps = Steps::<C>::start(blank);
+    let mut set = from.set.share(alloc)?;
+    for (vertex, _) in elements {
+        set = set.del(alloc, vertex, &mut steps)?;
+    }
+    Ok(Neighbours { set })
+}
+
+/// The elements of either set.
+#[derive(Drop)]
+pub(crate) struct Merge;
+
+impl Resolve<Neighbours> for Merge {
+    ghost resolved = { λ _ a b. merged a b };
+
+    fn resolve(
+        &self,
+        alloc: Global,
+        a: &Neighbours,
+        b: &Neighbours,
+    ) -> Result<Neighbours, NoMemory> {
+        a.merged(alloc, b)
+    }
+}
+
+/// The elements of the first set that the second hasn't.
+#[derive(Drop)]
+pub(crate) struct Minus;
+
+impl Resolve<Neighbours> for Minus {
+    ghost resolved = { λ _ a b. minus a b };
+
+    fn resolve(
+        &self,
+        alloc: Global,
+        a: &Neighbours,
+        b: &Neighbours,
+    ) -> Result<Neighbours, NoMemory> {
+        a.minus(alloc, b)
+    }
+}
+
+/// Whether a set has elements.
+#[derive(Drop)]
+pub(crate) struct HasElements;
+
+impl Test<u64, Neighbours> for HasElements {
+    ghost passes = { λ _ _ ns. has_elements ns };
+
+    fn holds(&self, _key: &u64, val: &Neighbours) -> bool {
+        val.size() != 0
     }
 }

@@ -1,13 +1,16 @@
 //! The map from vertices to their sets of out-neighbours.
-ghost use Rattle.std.specs.Prelude.{◌≡◌, ◌<◌, IfOk};
-ghost use Rattle.graph_snap.specs.Edges.{replace, set_at};
+ghost use Rattle.std.specs.Prelude.{◌≡◌, ◌+◌, ◌-◌, ◌<◌, ◌≤◌, length, IfOk};
+ghost use Rattle.graph_snap.specs.Batches.{AreAlikeBut, IsLessened, IsUnited};
+ghost use Rattle.graph_snap.specs.Edges.{AreSets, edges_of, set_at};
 
-use crate::neighbours::Neighbours;
+use crate::neighbours::{HasElements, Merge, Minus, Neighbours};
 use aug_map::PlainMap;
-use aug_monoid::{NoMemory, Nothing, Steps};
+use aug_monoid::{First, NoMemory, Nothing, Steps};
+use fork_join::{Cut, Gate};
 use std::alloc::Global;
-use std::marker::Brand;
+use std::marker::{Brand, Sync};
 use std::sync::ledger::{Blank, Ledger};
+use std::thread::Threads;
 
 /// A map from vertices to their sets of out-neighbours.
 pub type Vertices = PlainMap<Nothing<u64, Neighbours>>;
@@ -42,35 +45,84 @@ pub(crate) fn set_at(
     set_counted::<Brand>(alloc, vertices, vertex, Blank::new(1))
 }
 
-// The map with this set at a vertex, with a counter that the caller gives up.
-fn replace_counted<C: Ledger>(
-    alloc: Global,
-    vertices: &Vertices,
-    vertex: u64,
-    set: Neighbours,
-    blank: Blank,
-) -> Result<Vertices, NoMemory>
-    requires name { blank.name ≡ C.name }
-    requires parts { blank.parts ≡ C.parts }
-    requires some { 0 < blank.parts }
-    ensures { IfOk result (λ map. map.entries ≡ replace vertices.now.entries vertex set) }
+/// How many elements the set of a vertex has.
+pub(crate) fn degree_at(alloc: Global, vertices: &Vertices, vertex: u64) -> Result<u64, NoMemory>
+    ensures { IfOk result (λ n. n ≡ length (set_at vertices.now.entries vertex)) }
 {
-    let mut steps = Steps::<C>::start(blank);
-    if set.size() == 0 {
-        vertices.del(alloc, &vertex, &mut steps)
-    } else {
-        vertices.put(alloc, vertex, set, &mut steps)
+    let set = set_at(alloc, vertices, vertex)?;
+    Ok(set.size())
+}
+
+/// The map with the edges of another one too.
+pub(crate) fn with_sets<R: Threads + Sync, G: Gate>(
+    rt: &R,
+    alloc: Global,
+    gate: &G,
+    cut: Cut,
+    vertices: &Vertices,
+    batch: &Vertices,
+) -> Result<Vertices, NoMemory>
+    requires vertices { AreSets vertices.now.entries }
+    requires batch { AreSets batch.now.entries }
+    ensures sets { IfOk result (λ map. AreSets map.entries) }
+    ensures edges { IfOk result (λ map. IsUnited vertices.now.entries batch.now.entries map.entries) }
+    ensures others { IfOk result (λ map. AreAlikeBut batch.now.entries vertices.now.entries map.entries) }
+{
+    vertices.union(rt, alloc, gate, cut, batch, &Merge)
+}
+
+/// The map without the edges of another one. A vertex that has no edge left is no key.
+pub(crate) fn without_sets<R: Threads + Sync, G: Gate>(
+    rt: &R,
+    alloc: Global,
+    gate: &G,
+    cut: Cut,
+    vertices: &Vertices,
+    batch: &Vertices,
+) -> Result<Vertices, NoMemory>
+    requires vertices { AreSets vertices.now.entries }
+    requires batch { AreSets batch.now.entries }
+    ensures sets { IfOk result (λ map. AreSets map.entries) }
+    ensures edges { IfOk result (λ map. IsLessened vertices.now.entries batch.now.entries map.entries) }
+    ensures others { IfOk result (λ map. AreAlikeBut batch.now.entries vertices.now.entries map.entries) }
+{
+    let changed = vertices.intersect(rt, alloc, gate, cut, batch, &Minus)?;
+    let left = changed.filter(rt, alloc, gate, cut, &HasElements)?;
+    let others = vertices.difference(rt, alloc, gate, cut, batch)?;
+    others.union(rt, alloc, gate, cut, &left, &First)
+}
+
+// A number of edges where some are exchanged for others. That it is no `u64` is want of memory.
+fn exchanged(count: u64, old: u64, new: u64) -> Result<u64, NoMemory>
+    requires { old ≤ count }
+    ensures { IfOk result (λ more. more ≡ count - old + new) }
+{
+    match (count - old).checked_add(new) {
+        Some(more) => Ok(more),
+        None => Err(NoMemory),
     }
 }
 
-/// The map with this set at a vertex, which is no key where the set is empty.
-pub(crate) fn replace(
+/// How many edges a map has that differs from another one at these vertices alone.
+pub(crate) fn recount(
     alloc: Global,
-    vertices: &Vertices,
-    vertex: u64,
-    set: Neighbours,
-) -> Result<Vertices, NoMemory>
-    ensures { IfOk result (λ map. map.entries ≡ replace vertices.now.entries vertex set) }
+    before: &Vertices,
+    after: &Vertices,
+    edges: u64,
+    changed: &[(u64, Neighbours)],
+) -> Result<u64, NoMemory>
+    requires before { AreSets before.now.entries }
+    requires after { AreSets after.now.entries }
+    requires changed { AreSets changed.now }
+    requires others { AreAlikeBut changed.now before.now.entries after.now.entries }
+    requires edges { edges ≡ length (edges_of before.now.entries) }
+    ensures { IfOk result (λ count. count ≡ length (edges_of after.now.entries)) }
 {
-    replace_counted::<Brand>(alloc, vertices, vertex, set, Blank::new(1))
+    let mut count = edges;
+    for (vertex, _) in changed {
+        let old = degree_at(alloc, before, *vertex)?;
+        let degree = degree_at(alloc, after, *vertex)?;
+        count = exchanged(count, old, degree)?;
+    }
+    Ok(count)
 }

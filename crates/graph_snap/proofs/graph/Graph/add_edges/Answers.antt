@@ -1,15 +1,23 @@
-use Rattle.std.proofs.Common.{◌∙◌, ap, sym}
-use Rattle.std.proofs.lemmas.List.{take_all}
-use Rattle.graph_snap.specs.Edges.{pairs_of, with_edges}
-use Rattle.graph_snap.proofs.Ordered.{added_one}
-use Rattle.graph_snap.proofs.Sets.{keys-elements}
+use Rattle.std.proofs.Common.{◌≡◌, ◌∙◌, subst, sym}
+use Rattle.graph_snap.specs.Batches.{AreAlikeBut}
+use Rattle.graph_snap.specs.Edges.{AreSets, edges_of, pairs_of}
+use Rattle.graph_snap.proofs.Batched.{added, built_sets}
 use Rattle.graph_snap.proofs.graph.Graph.add_edges.Goals as goal
 
-pub loop-edge-init : goal.loop-edge-init
-loop-edge-init g c = c.in_ok-graph.ensures ∙ sym (keys-elements c.args.self.now)
+pub with_sets-requires-clause-batch : goal.with_sets-requires-clause-batch
+with_sets-requires-clause-batch g c κs within =
+    let changed = c.in_ok-changed.changed.items in
+    let made = built_sets changed c.deref.result.now c.in_ok-batch.batch.entries c.in_ok-changed.ensures.sets c.deref.ensures.value c.in_ok-batch.ensures in
+    subst AreSets (sym made) c.in_ok-changed.ensures.sets
 
-pub loop-edge-preserved : goal.loop-edge-preserved
-loop-edge-preserved g c = added_one c.args.self.now c.args.list.now c.loop-edge.edge-index _ c.loop-edge.graph c.in_ok-graph-2.graph c.loop-edge-test.true c.loop-edge.invariant c.in_ok-graph-2.ensures
+pub recount-requires-clause-others : goal.recount-requires-clause-others
+recount-requires-clause-others g c =
+    let changed = c.in_ok-changed.changed.items in
+    let made = built_sets changed c.deref.result.now c.in_ok-batch.batch.entries c.in_ok-changed.ensures.sets c.deref.ensures.value c.in_ok-batch.ensures in
+    subst (λ m. AreAlikeBut m c.self.inside.vertices.entries c.in_ok-vertices.vertices.entries) (made ∙ sym c.deref-2.ensures.value) c.in_ok-vertices.ensures.others
 
 pub returns : goal.returns
-returns g c = c.loop-edge.invariant ∙ ap (λ l. with_edges c.args.self.now (pairs_of l)) (take_all c.loop-edge.edge-index c.args.list.now c.loop-edge-test.false)
+returns g c =
+    let changed = c.in_ok-changed.changed.items in
+    let made = built_sets changed c.deref.result.now c.in_ok-batch.batch.entries c.in_ok-changed.ensures.sets c.deref.ensures.value c.in_ok-batch.ensures in
+    added c.self.inside.vertices.entries changed c.in_ok-batch.batch.entries c.args.self.now (pairs_of c.args.list.now) (edges_of c.in_ok-vertices.vertices.entries) c.self.view_is c.self.invariant.0 made c.in_ok-changed.ensures.edges c.in_ok-vertices.ensures.edges

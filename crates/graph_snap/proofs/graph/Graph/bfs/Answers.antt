@@ -1,7 +1,11 @@
 use Rattle.std.proofs.Common.{◌∙◌, ap}
 use Rattle.std.proofs.lemmas.Result.{IfOk-weaker}
 use Rattle.graph_snap.specs.Walks.{reach}
+use Rattle.graph_snap.proofs.Distances.{has_distances}
 use Rattle.graph_snap.proofs.graph.Graph.bfs.Goals as goal
 
-pub returns : goal.returns
-returns g c = IfOk-weaker c.search.result _ _ (λ found h. h ∙ ap (λ m. reach m c.args.from) c.self.view_is) c.search.ensures
+pub returns-clause-value : goal.returns-clause-value
+returns-clause-value g c = IfOk-weaker c.search.result _ _ (λ found h. h ∙ ap (λ m. reach m c.args.from) c.self.view_is) c.search.ensures
+
+pub returns-clause-least : goal.returns-clause-least
+returns-clause-least g c = IfOk-weaker c.search.result _ _ (λ found h. has_distances c.args.self.now c.args.from found.items (h ∙ ap (λ m. reach m c.args.from) c.self.view_is)) c.search.ensures

@@ -1,6 +1,0 @@
-use Rattle.std.proofs.Common.{◌≡◌, take}
-use Rattle.graph_snap.specs.Edges.{pairs_of, without_edges}
-use Rattle.graph_snap.proofs.graph.Graph.cut_edges.Given as goal
-
-abbrev pub invariant-loop-edge : goal.invariant-loop-edge
-invariant-loop-edge g l = l.graph ≡ without_edges l.self (pairs_of (take l.edge-index l.list))

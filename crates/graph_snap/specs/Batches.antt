@@ -1,0 +1,44 @@
+-- Batches of edges, and maps of sets that differ at few vertices.
+use Rattle.std.specs.Prelude.{◌≡◌, ◌==◌, [], ◌∷◌, ℕ, suc, Bool, List, None, cond, length, map, not}
+use Rattle.std.specs.Map.{keys_of}
+use Rattle.std.specs.Ordering.{nat_cmp}
+use Rattle.map_model.specs.Entries.{lookup}
+use Rattle.map_model.specs.Operations.{after, dels}
+use Rattle.aug_monoid.specs.declared.pair64.Pair64.{Pair64}
+use Rattle.graph_snap.specs.Edges.{Sets, edges_of, with_edges, without_edges}
+use Rattle.graph_snap.specs.declared.edge.Edge.{Edge}
+
+-- edges as keys without values, and back
+abbrev pub as_keys : List Edge → List (Pair64 × Unit {0})
+as_keys list = map (λ e. (record { first = e.from; second = e.to }, tt)) list
+
+abbrev pub as_pairs : List (Pair64 × Unit {0}) → List (ℕ × ℕ)
+as_pairs keys = map (λ e. (e.0.first, e.0.second)) keys
+
+-- the ends of edges, as keys without values
+abbrev pub ends : List (ℕ × ℕ) → List (ℕ × Unit {0})
+ends g = map (λ e. (e.1, tt)) g
+
+-- how many edges at the start are from a vertex
+abbrev pub run : ℕ → List (ℕ × ℕ) → ℕ
+run u [] = 0
+run u (e ∷ g) = cond (e.0 == u) (suc (run u g)) 0
+
+-- the elements of a that b hasn't
+abbrev pub minus : List (ℕ × Unit {0}) → List (ℕ × Unit {0}) → List (ℕ × Unit {0})
+minus a b = after nat_cmp a (dels (keys_of b))
+
+abbrev pub has_elements : List (ℕ × Unit {0}) → Bool
+has_elements ns = not (length ns == 0)
+
+-- a map of sets has the edges of both others
+abbrev pub IsUnited : Sets → Sets → Sets → Type 0
+IsUnited a b both = edges_of both ≡ with_edges (edges_of a) (edges_of b)
+
+-- a map of sets has the edges of a that b hasn't
+abbrev pub IsLessened : Sets → Sets → Sets → Type 0
+IsLessened a b left = edges_of left ≡ without_edges (edges_of a) (edges_of b)
+
+-- two maps of sets have the same set at each vertex that changed hasn't
+abbrev pub AreAlikeBut : Sets → Sets → Sets → Type 0
+AreAlikeBut changed a b = (u : ℕ) → lookup nat_cmp changed u ≡ None → lookup nat_cmp a u ≡ lookup nat_cmp b u
