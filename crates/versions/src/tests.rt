@@ -54,25 +54,60 @@ fn with_all(start: u64, ops: &[u64]) -> u64
     total
 }
 
-#[test]
-fn an_earlier_version_stays(rt: HostRuntime) -> Result<(), Fail> {
-    let alloc = rt.alloc();
-    let first = Version::first(0u64);
-    let cut = Cut::new(1, 1024);
+fn told(version: &Version<u64>) -> (u64, u64) {
+    (version.number(), *version.state())
+}
+
+fn told_by_a_share(alloc: Global, version: &Version<u64>) -> Result<(u64, u64), NoMemory> {
+    let copy = version.share(alloc)?;
+    Ok(told(&copy))
+}
+
+/// The version with one more entry, of the operations 10 and 20.
+fn longer<R: Threads + Sync>(
+    rt: &R,
+    alloc: Global,
+    version: &Version<u64>,
+) -> Result<Version<u64>, NoMemory> {
     let batch = Batch::new(alloc, vec![in alloc; 10, 20]?)?;
     let entries = [Entry {
         caller: 3,
         tag: 7,
         batch,
     }];
-    let second = first.extend(&rt, alloc, &FreeGate, cut, &entries)?;
-    let copy = second.share(alloc)?;
-    let start = first.share(alloc)?;
-    assert_eq!(rt; (first.number(), *first.state()), (0, 0));
-    assert_eq!(rt; (start.number(), *start.state()), (0, 0));
-    assert_eq!(rt; (copy.number(), *copy.state()), (1, 30));
-    let entry = copy.journal().get(0).ok_or("one entry")?;
-    assert_eq!(rt; (entry.caller, entry.tag), (3, 7));
-    assert_eq!(rt; entry.batch.ops(), [10, 20].as_slice());
+    version.extend(rt, alloc, &FreeGate, Cut::new(1, 1024), &entries)
+}
+
+/// The caller, the tag and the number of operations of the first entry.
+fn first_entry(version: &Version<u64>) -> Option<(u32, u64, usize)> {
+    let entry = version.journal().get(0)?;
+    Some((entry.caller, entry.tag, entry.batch.ops().len()))
+}
+
+/// The numbers and states of two versions and of shares of them, and the first entry of the second.
+#[derive(Clone, Copy)]
+struct Numbers {
+    first: [(u64, u64); 2],
+    second: [(u64, u64); 2],
+    entry: Option<(u32, u64, usize)>,
+}
+
+/// What the first version and one made of it tell, each by itself and by a share of it.
+fn told_in_turn<R: Threads + Sync>(rt: &R, alloc: Global) -> Result<Numbers, NoMemory> {
+    let first = Version::first(0u64);
+    let second = longer(rt, alloc, &first)?;
+    Ok(Numbers {
+        first: [told(&first), told_by_a_share(alloc, &first)?],
+        second: [told(&second), told_by_a_share(alloc, &second)?],
+        entry: first_entry(&second),
+    })
+}
+
+#[test]
+fn an_earlier_version_stays(rt: HostRuntime) -> Result<(), Fail> {
+    let told = told_in_turn(&rt, rt.alloc())?;
+    assert_eq!(rt; told.first, [(0, 0), (0, 0)]);
+    assert_eq!(rt; told.second, [(1, 30), (1, 30)]);
+    assert_eq!(rt; told.entry, Some((3, 7, 2)));
     Ok(())
 }
