@@ -3,7 +3,9 @@ ghost use Rattle.map_model.specs.Balance.{IsBlockSize};
 
 use crate::runs::{Multiples, Sums, multiples_of};
 use aug_monoid::{First, NoMemory, Reduce, Second, Test};
-use bulk_ops::{build, difference, filter, intersect, map_reduce, merge, multi_del, multi_put, union};
+use bulk_ops::{
+    build, difference, filter, intersect, map_reduce, merge, multi_del, multi_put, union,
+};
 use fork_join::{Cut, FreeGate};
 use std::alloc::Global;
 use std::marker::Sync;
