@@ -6,8 +6,6 @@ mod edge;
 mod graph;
 mod neighbours;
 mod search;
-#[cfg(test)]
-mod tests;
 mod vertices;
 
 pub use edge::{Edge, Reached};
