@@ -1,7 +1,7 @@
 //! Weights of trees.
 ghost use Rattle.std.specs.Prelude.{◌≡◌, ◌+◌, ◌*◌, ◌<◌, ◌≤◌, ◌↔◌, IsTrue, length};
 ghost use Rattle.balance.specs.Turns.{IsWeight};
-ghost use Rattle.map_model.specs.Balance.{IsBalanced, weight};
+ghost use Rattle.map_model.specs.Balance.{FillsBlock, IsBalanced, weight};
 
 use aug_monoid::{Augment, Leaf};
 use balance::balanced;
@@ -27,13 +27,14 @@ pub(crate) fn are_small<A: Augment, L: Leaf<A::Key, A::Val>, S: BlockSize>(
     left.size() + right.size() < 4 * left.block_size()
 }
 
-/// Whether two trees and an entry are enough for a node over the two, which are balanced.
+/// Whether a node over two trees and an entry keeps the shape: they are balanced, and blocks where there are few entries.
 pub(crate) fn are_balanced<A: Augment, L: Leaf<A::Key, A::Val>, S: BlockSize>(
     left: &TreeOver<A, L, S>,
     right: &TreeOver<A, L, S>,
 ) -> bool
-    ensures large { IsTrue result → 4 * S.SIZE < length left.now.entries + length right.now.entries + 1 }
+    ensures filled { IsTrue result → length left.now.entries + length right.now.entries + 1 ≤ 4 * S.SIZE → FillsBlock S.SIZE (length left.now.entries) × FillsBlock S.SIZE (length right.now.entries) }
     ensures balanced { IsTrue result → IsBalanced (weight left.now.entries) (weight right.now.entries) }
 {
-    !are_small(left, right) && balanced(weight_of(left), weight_of(right))
+    let are_blocks = left.fills_block() && right.fills_block();
+    (are_blocks || !are_small(left, right)) && balanced(weight_of(left), weight_of(right))
 }

@@ -22,10 +22,13 @@ node-requires-clause-long g c =
     let cut = c.in_ok-front.ensures in
     rw (c.in_ok-left.ensures.entries, c.in_ok-right.ensures.entries) (omega (arith, cut.front_length, cut.back_length, c.len.ensures, c.requires.long))
 
-pub node-requires-clause-halved : goal.node-requires-clause-halved
-node-requires-clause-halved g c = λ _.
+pub node-requires-clause-filled : goal.node-requires-clause-filled
+node-requires-clause-filled g c = λ _.
     let cut = c.in_ok-front.ensures in
-    rw (c.in_ok-left.ensures.entries, c.in_ok-right.ensures.entries) (omega (arith, cut.front_length, cut.back_length, c.len.ensures))
+    let long = c.requires.long in
+    let small = c.requires.small in
+    rw (c.in_ok-left.ensures.entries, c.in_ok-right.ensures.entries)
+    ((omega (arith, cut.front_length, c.len.ensures, long), omega (arith, cut.front_length, c.len.ensures, small)), (omega (arith, cut.front_length, cut.back_length, c.len.ensures, long), omega (arith, cut.front_length, cut.back_length, c.len.ensures, small)))
 
 pub returns-clause-entries : goal.returns-clause-entries
 returns-clause-entries g c = rw c.in_ok-front.ensures.whole (rw (c.in_ok-left.ensures.entries, c.in_ok-right.ensures.entries) at c.node.ensures.entries)
