@@ -1,5 +1,6 @@
 //! Batches of pairs, sorted.
-ghost use Rattle.std.specs.Prelude.{◌≡◌, IfOk, reverse};
+ghost use Rattle.std.specs.Prelude.{◌≡◌, IfOk, OnOk, reverse};
+ghost use Rattle.std.specs.List.Sorted.{IsSortedByKey, IsStableByKey};
 ghost use Rattle.std.specs.Ordering.{is_eq};
 ghost use Rattle.bulk_ops.specs.Batches.{IsBatch};
 
@@ -11,15 +12,31 @@ use std::cmp::Ordering;
 use std::marker::{Send, Sync};
 use std::thread::Threads;
 
-/// For each key its last pair, by increasing keys. The sort is stable and uses all processors.
-pub(crate) fn last_of_each_key<R: Threads + Sync, K: Key + Send, V: Share + Send>(
+/// A batch of at most this many pairs is sorted on one thread. To ask how many processors there are takes longer than that.
+const FEW_PAIRS: usize = 1024;
+
+/// Sorts a batch stably on one thread.
+fn sort_here<K: Key, V>(batch: &mut Vec<(K, V)>) -> Result<(), NoMemory>
+    ensures sorted { OnOk result (IsSortedByKey (λ e. e.0) K.cmp batch.new.items) }
+    ensures stable { OnOk result (IsStableByKey (λ e. e.0) K.cmp batch.old.items batch.new.items) }
+{
+    batch.sort_by(
+        |x: &(K, V), y: &(K, V)| -> Ordering
+            ensures { result ≡ K.cmp x.now.0 y.now.0 }
+        { x.0.cmp(&y.0) },
+    )?;
+    Ok(())
+}
+
+/// Sorts a batch stably on all processors.
+fn sort_on_all<R: Threads + Sync, K: Key + Send, V: Send>(
     rt: &R,
     alloc: Global,
-    pairs: &[(K, V)],
-) -> Result<Vec<(K, V)>, NoMemory>
-    ensures { IfOk result (λ v. IsBatch K.cmp pairs.now v.items) }
+    batch: &mut Vec<(K, V)>,
+) -> Result<(), NoMemory>
+    ensures sorted { OnOk result (IsSortedByKey (λ e. e.0) K.cmp batch.new.items) }
+    ensures stable { OnOk result (IsStableByKey (λ e. e.0) K.cmp batch.old.items batch.new.items) }
 {
-    let mut batch = newest_first(alloc, pairs)?;
     par_sort_by(
         rt,
         alloc,
@@ -28,6 +45,35 @@ pub(crate) fn last_of_each_key<R: Threads + Sync, K: Key + Send, V: Share + Send
             ensures { result ≡ K.cmp x.now.0 y.now.0 }
         { x.0.cmp(&y.0) },
     )?;
+    Ok(())
+}
+
+/// Sorts a batch stably.
+fn sort_batch<R: Threads + Sync, K: Key + Send, V: Send>(
+    rt: &R,
+    alloc: Global,
+    batch: &mut Vec<(K, V)>,
+) -> Result<(), NoMemory>
+    ensures sorted { OnOk result (IsSortedByKey (λ e. e.0) K.cmp batch.new.items) }
+    ensures stable { OnOk result (IsStableByKey (λ e. e.0) K.cmp batch.old.items batch.new.items) }
+{
+    if batch.len() <= FEW_PAIRS {
+        sort_here(batch)
+    } else {
+        sort_on_all(rt, alloc, batch)
+    }
+}
+
+/// For each key its last pair, by increasing keys. The sort is stable, and uses all processors where there are many pairs.
+pub(crate) fn last_of_each_key<R: Threads + Sync, K: Key + Send, V: Share + Send>(
+    rt: &R,
+    alloc: Global,
+    pairs: &[(K, V)],
+) -> Result<Vec<(K, V)>, NoMemory>
+    ensures { IfOk result (λ v. IsBatch K.cmp pairs.now v.items) }
+{
+    let mut batch = newest_first(alloc, pairs)?;
+    sort_batch(rt, alloc, &mut batch)?;
     batch.dedup_by(
         |x: &mut (K, V), y: &mut (K, V)| -> bool
             ensures answer { result ≡ is_eq (K.cmp x.old.0 y.old.0) }
