@@ -1,7 +1,7 @@
 //! Weights of trees.
 ghost use Rattle.std.specs.Prelude.{◌≡◌, ◌+◌, ◌*◌, ◌<◌, ◌≤◌, ◌↔◌, IsTrue, length};
 ghost use Rattle.balance.specs.Turns.{IsWeight};
-ghost use Rattle.map_model.specs.Balance.{IsBalanced, weight};
+ghost use Rattle.map_model.specs.Balance.{FillsNode, IsBalanced, weight};
 
 use aug_monoid::{Augment, Leaf};
 use balance::balanced;
@@ -27,13 +27,13 @@ pub(crate) fn are_small<A: Augment, L: Leaf<A::Key, A::Val>, S: BlockSize>(
     left.size() + right.size() < 4 * left.block_size()
 }
 
-/// Whether two trees and an entry are enough for a node over the two, which are balanced.
+/// Whether a node may stand over two trees as they are: they fill one, and are balanced.
 pub(crate) fn are_balanced<A: Augment, L: Leaf<A::Key, A::Val>, S: BlockSize>(
     left: &TreeOver<A, L, S>,
     right: &TreeOver<A, L, S>,
 ) -> bool
-    ensures large { IsTrue result → 4 * S.SIZE < length left.now.entries + length right.now.entries + 1 }
+    ensures filled { IsTrue result → FillsNode S.SIZE (length left.now.entries) (length right.now.entries) }
     ensures balanced { IsTrue result → IsBalanced (weight left.now.entries) (weight right.now.entries) }
 {
-    !are_small(left, right) && balanced(weight_of(left), weight_of(right))
+    TreeOver::fill_node(left, right) && balanced(weight_of(left), weight_of(right))
 }
