@@ -2,7 +2,7 @@
 ghost use Rattle.std.specs.Prelude.{◌≡◌, ◌+◌, ◌*◌, ◌<◌, ◌≤◌, ◌↔◌, [], ◌∷◌, ◌++◌, IfOk, IfSome, IsNone, length, max};
 ghost use Rattle.map_model.specs.Balance.{IsBalanced, weight};
 ghost use Rattle.map_model.specs.Entries.{AllAbove, AllBelow, IsBefore, above, below, lookup};
-ghost use Rattle.map_model.specs.SetOperations.{union};
+ghost use Rattle.map_model.specs.SetOperations.{difference, union};
 
 use crate::map::MapOver;
 use aug_monoid::{Augment, Leaf, NoMemory, Resolve, Steps};
@@ -117,6 +117,18 @@ impl<A: Augment, L: Leaf<A::Key, A::Val>, S: BlockSize> MapOver<A, L, S> {
         ensures { IfOk result (λ map. map.entries ≡ union A.Key.cmp (R.resolved how.now) a.now.entries b.now.entries) }
     {
         let tree = bulk_ops::merge(alloc, &a.tree, &b.tree, how)?;
+        Ok(MapOver { tree })
+    }
+
+    /// The entries of `a` whose keys `b` hasn't. It is `difference` on one thread.
+    pub fn subtract(
+        alloc: Global,
+        a: &MapOver<A, L, S>,
+        b: &MapOver<A, L, S>,
+    ) -> Result<MapOver<A, L, S>, NoMemory>
+        ensures { IfOk result (λ map. map.entries ≡ difference A.Key.cmp a.now.entries b.now.entries) }
+    {
+        let tree = bulk_ops::subtract(alloc, &a.tree, &b.tree)?;
         Ok(MapOver { tree })
     }
 }

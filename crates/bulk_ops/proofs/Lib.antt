@@ -5,3 +5,4 @@ pub mod Batches
 pub mod Planted
 pub mod Slices
 pub mod NodeSides
+pub mod OneEntry

@@ -5,6 +5,7 @@ ghost use Rattle.map_model.specs.Entries.{IsIncreasing};
 use crate::combination::Combination;
 use crate::combining::keep_entry;
 use crate::middle::join_around;
+use crate::one::combine_one;
 use crate::slicing::cut_slice;
 use crate::small::{entries_of, kept_or_none, tree_of};
 use aug_monoid::{Augment, Leaf, NoMemory};
@@ -34,7 +35,7 @@ pub(crate) fn combine_lists<
     tree_of(alloc, &both)
 }
 
-/// A tree combined with few entries. It goes down only where one of them is, cuts the slice at each node's key, and shares the
+/// A tree combined with few entries. It goes down only where some of them are, cuts the slice at each node's key, and shares the
 /// other sides.
 pub(crate) fn combine_few<
     A: Augment,
@@ -50,9 +51,12 @@ pub(crate) fn combine_few<
     requires increasing { IsIncreasing A.Key.cmp few.now }
     ensures { IfOk result (λ out. out.entries ≡ W.combined how.now part.entry.tree.now.entries few.now) }
 {
-    if few.is_empty() {
+    let Some((entry, others)) = few.split_first() else {
         let whole = another_owner(alloc, part.tree)?;
         return Ok(kept_or_none(whole, how.keeps_first()));
+    };
+    if others.is_empty() {
+        return combine_one(alloc, how, part.tree, entry);
     }
     match part.tree.look() {
         LookOver::Node {

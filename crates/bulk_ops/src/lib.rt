@@ -15,6 +15,7 @@ mod few;
 mod filtering;
 mod meeting;
 mod middle;
+mod one;
 mod putting;
 mod reducing;
 mod slicing;
@@ -25,7 +26,7 @@ mod uniting;
 
 pub use building::build;
 pub use deleting::multi_del;
-pub use differing::difference;
+pub use differing::{difference, subtract};
 pub use filtering::filter;
 pub use meeting::intersect;
 pub use putting::multi_put;

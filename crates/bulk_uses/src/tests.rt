@@ -4,7 +4,7 @@ ghost use Rattle.map_model.specs.Balance.{IsBlockSize};
 use crate::runs::{Multiples, Sums, multiples_of};
 use aug_monoid::{First, NoMemory, Reduce, Second, Test};
 use bulk_ops::{
-    build, difference, filter, intersect, map_reduce, merge, multi_del, multi_put, union,
+    build, difference, filter, intersect, map_reduce, merge, multi_del, multi_put, subtract, union,
 };
 use fork_join::{Cut, FreeGate};
 use std::alloc::Global;
@@ -18,6 +18,7 @@ enum Combined {
     Merge,
     Intersection,
     Difference,
+    Subtraction,
 }
 
 // What stands at a key of two maps: a union keeps the first value, the intersection the second.
@@ -26,7 +27,7 @@ fn kept(call: Combined, a: Option<u64>, b: Option<u64>) -> Option<u64> {
         (Combined::Union | Combined::Merge, None, _) => b,
         (Combined::Union | Combined::Merge, _, _) => a,
         (Combined::Intersection, Some(_), _) => b,
-        (Combined::Difference, _, None) => a,
+        (Combined::Difference | Combined::Subtraction, _, None) => a,
         _ => None,
     }
 }
@@ -65,6 +66,7 @@ fn answered<R: Threads + Sync, const B: usize>(
         Combined::Merge => merge(alloc, &first, &second, &First)?,
         Combined::Intersection => intersect(rt, alloc, &FreeGate, cut, &first, &second, &Second)?,
         Combined::Difference => difference(rt, alloc, &FreeGate, cut, &first, &second)?,
+        Combined::Subtraction => subtract(alloc, &first, &second)?,
     };
     let mut entries = Vec::new(alloc);
     answer.push_entries(alloc, &mut entries)?;
@@ -104,6 +106,7 @@ fn two_maps_are_combined_key_by_key(rt: HostRuntime) -> Result<(), Fail> {
             Combined::Merge,
             Combined::Intersection,
             Combined::Difference,
+            Combined::Subtraction,
         ] {
             for cut in [Cut::new(1, 1), Cut::new(4, 1), Cut::new(64, 1)] {
                 assert!(rt;

@@ -51,6 +51,16 @@ fn merged<L: Leaf<u64, u64>, const B: usize>(
     MapOver::merge(alloc, map, &other, &SatSum)?.to_vec(alloc)
 }
 
+fn lessened<L: Leaf<u64, u64>, const B: usize>(
+    alloc: Global,
+    map: &Sums<L, B>,
+) -> Result<Entries, NoMemory>
+    requires { IsBlockSize B }
+{
+    let other: Sums<L, B> = MapOver::single(alloc, 4, 5)?;
+    MapOver::subtract(alloc, map, &other)?.to_vec(alloc)
+}
+
 /// The map split at a key, joined around the key with value 61, and joined without it.
 fn joined<L: Leaf<u64, u64>, const B: usize, C: Ledger>(
     alloc: Global,
@@ -64,7 +74,12 @@ fn joined<L: Leaf<u64, u64>, const B: usize, C: Ledger>(
     Ok((around.to_vec(alloc)?, closed.to_vec(alloc)?))
 }
 
-type Table = (Vec<Entries>, Vec<Entries>, Entries, (Entries, Entries));
+type Table = (
+    Vec<Entries>,
+    Vec<Entries>,
+    (Entries, Entries),
+    (Entries, Entries),
+);
 
 fn changes_in<L: Leaf<u64, u64>, const B: usize, C: Ledger>(
     alloc: Global,
@@ -75,7 +90,7 @@ fn changes_in<L: Leaf<u64, u64>, const B: usize, C: Ledger>(
     let map: Sums<L, B> = map_of(alloc, &[(6, 60), (2, 20), (8, 80), (4, 40)], steps)?;
     let single = changed(alloc, &map, steps)?;
     let apart = taken_apart(alloc, &map, steps)?;
-    let whole = merged(alloc, &map)?;
+    let whole = (merged(alloc, &map)?, lessened(alloc, &map)?);
     let rejoined = joined(alloc, &map, 6, steps)?;
     Ok((single, apart, whole, rejoined))
 }
@@ -114,9 +129,10 @@ fn assert_changes<R: Abort>(rt: &R, lists: &Table) {
     assert_lists(rt, &lists.0, &single);
     assert_lists(rt, &lists.1, &apart);
     assert_eq!(rt;
-        lists.2.as_slice(),
+        lists.2.0.as_slice(),
         [(2, 20), (4, 45), (6, 60), (8, 80)].as_slice()
     );
+    assert_eq!(rt; lists.2.1.as_slice(), [(2, 20), (6, 60), (8, 80)].as_slice());
     assert_eq!(rt; lists.3.0.as_slice(), [(2, 20), (4, 40), (6, 61), (8, 80)].as_slice());
     assert_eq!(rt; lists.3.1.as_slice(), [(2, 20), (4, 40), (8, 80)].as_slice());
 }
