@@ -1,9 +1,7 @@
-use Rattle.std.proofs.Common.{◌≡◌, ◌+◌, ◌++◌, IfOk, refl, sym, subst, length}
+use Rattle.std.proofs.Common.{◌≡◌, ◌++◌, IfOk, refl, sym, subst}
 use Rattle.std.specs.List.{cons_option}
-use Rattle.map_model.specs.Entries.{IsIncreasing}
-use Rattle.fork_join.specs.Openings.{IsOpened}
-use Rattle.bulk_ops.specs.Answers.{IsAnswer, IsPutTogether}
-use Rattle.bulk_ops.specs.Combination.{combined_entries, entry_count}
+use Rattle.bulk_ops.specs.Answers.{IsPutTogether}
+use Rattle.bulk_ops.specs.Combination.{combined_entries}
 use Rattle.bulk_ops.proofs.combining.+combine_alone.Goals as goal
 
 pub same-left : goal.same-left

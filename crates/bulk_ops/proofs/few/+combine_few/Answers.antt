@@ -1,7 +1,5 @@
-use Rattle.std.proofs.Common.{rules, ◌≡◌, ◌<◌, ◌∷◌, ◌++◌, length, Some, IfOk, refl, sym, ap, ◌∙◌, subst, arith}
-use Rattle.std.specs.List.{cons_option}
-use Rattle.std.specs.Option.{option_map}
-use Rattle.map_model.specs.Entries.{IsIncreasing, below, above, lookup}
+use Rattle.std.proofs.Common.{rules, ◌≡◌, ◌<◌, length, Some, IfOk, refl, sym, ap, ◌∙◌, subst, arith}
+use Rattle.map_model.specs.Entries.{IsIncreasing, below, above}
 use Rattle.map_model.proofs.Cuts.{length-around}
 use Rattle.map_model.proofs.Splits.{IsIncreasing-below, IsIncreasing-above}
 use Rattle.bulk_ops.specs.Combination.{entry_at}

@@ -1,4 +1,4 @@
-use Rattle.std.proofs.Common.{rules, IfOk, ◌≡◌, ◌++◌, subst, sym}
+use Rattle.std.proofs.Common.{IfOk, ◌≡◌, ◌++◌, subst, sym}
 use Rattle.std.specs.List.{cons_option}
 use Rattle.bulk_ops.proofs.middle.join_around.Goals as goal
 
