@@ -6,7 +6,7 @@ ghost use Rattle.versions.specs.Prefix.{IsPrefix};
 
 use crate::notice::Notice;
 use crate::steps::{Place, Root, claim_all, hand_all, take_in_first, tell};
-use aug_monoid::{NoMemory, Share};
+use aug_monoid::NoMemory;
 use std::alloc::Global;
 use std::marker::Model;
 use std::sync::{Arc, Wait};
@@ -31,7 +31,7 @@ impl<S: State> Model for Writer<S> {
     ghost invariant = { λ a. IsWriter (arc_value a.root).shared.table_id (arc_value a.root).shared.key.value a.current a.seat };
 }
 
-/// So many copies of the version.
+/// So many copies of the version, each with parts of its own, so that readers of different stripes write to no place in common.
 pub(crate) fn copies_of<S: State>(
     alloc: Global,
     version: &Version<S>,
@@ -41,7 +41,7 @@ pub(crate) fn copies_of<S: State>(
 {
     let mut copies = Vec::with_capacity(alloc, count)?;
     for _ in 0..count {
-        copies.push(Some(version.share(alloc)?))?;
+        copies.push(Some(version.apart(alloc)?))?;
     }
     Ok(copies)
 }

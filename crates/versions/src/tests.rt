@@ -63,6 +63,11 @@ fn told_by_a_share(alloc: Global, version: &Version<u64>) -> Result<(u64, u64), 
     Ok(told(&copy))
 }
 
+fn told_apart(alloc: Global, version: &Version<u64>) -> Result<(u64, u64), NoMemory> {
+    let copy = version.apart(alloc)?;
+    Ok(told(&copy))
+}
+
 /// The version with one more entry, of the operations 10 and 20.
 fn longer<R: Threads + Sync>(
     rt: &R,
@@ -84,21 +89,29 @@ fn first_entry(version: &Version<u64>) -> Option<(u32, u64, usize)> {
     Some((entry.caller, entry.tag, entry.batch.ops().len()))
 }
 
-/// The numbers and states of two versions and of shares of them, and the first entry of the second.
+/// The numbers and states of two versions and of shares and copies of them, and the first entry of the second.
 #[derive(Clone, Copy)]
 struct Numbers {
-    first: [(u64, u64); 2],
-    second: [(u64, u64); 2],
+    first: [(u64, u64); 3],
+    second: [(u64, u64); 3],
     entry: Option<(u32, u64, usize)>,
 }
 
-/// What the first version and one made of it tell, each by itself and by a share of it.
+/// What the first version and one made of it tell, each by itself, by a share of it and by a copy apart from it.
 fn told_in_turn<R: Threads + Sync>(rt: &R, alloc: Global) -> Result<Numbers, NoMemory> {
     let first = Version::first(0u64);
     let second = longer(rt, alloc, &first)?;
     Ok(Numbers {
-        first: [told(&first), told_by_a_share(alloc, &first)?],
-        second: [told(&second), told_by_a_share(alloc, &second)?],
+        first: [
+            told(&first),
+            told_by_a_share(alloc, &first)?,
+            told_apart(alloc, &first)?,
+        ],
+        second: [
+            told(&second),
+            told_by_a_share(alloc, &second)?,
+            told_apart(alloc, &second)?,
+        ],
         entry: first_entry(&second),
     })
 }
@@ -106,8 +119,8 @@ fn told_in_turn<R: Threads + Sync>(rt: &R, alloc: Global) -> Result<Numbers, NoM
 #[test]
 fn an_earlier_version_stays(rt: HostRuntime) -> Result<(), Fail> {
     let told = told_in_turn(&rt, rt.alloc())?;
-    assert_eq!(rt; told.first, [(0, 0), (0, 0)]);
-    assert_eq!(rt; told.second, [(1, 30), (1, 30)]);
+    assert_eq!(rt; told.first, [(0, 0); 3]);
+    assert_eq!(rt; told.second, [(1, 30); 3]);
     assert_eq!(rt; told.entry, Some((3, 7, 2)));
     Ok(())
 }

@@ -103,6 +103,18 @@ impl<S: State> Version<S> {
         &self.parts().journal
     }
 
+    /// The same version with parts of its own: those who share it count no owners together with those who share this one.
+    pub fn apart(&self, alloc: Global) -> Result<Version<S>, NoMemory>
+        ensures { IfOk result (λ version. version ≡ self.now) }
+    {
+        let parts = self.parts().share(alloc)?;
+        let held = match &self.held {
+            Held::Own(_) => Held::Own(parts),
+            Held::Shared(_) => Held::Shared(Arc::new(alloc, parts)?),
+        };
+        Ok(Version { held })
+    }
+
     /// The version with the same base, and with the entries at the end of the journal.
     /// It applies the entries' operations alone, by the state's `apply`, and pushes one entry after another.
     pub fn extend<R: Threads + Sync, G: Gate>(
