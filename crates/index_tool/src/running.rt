@@ -77,8 +77,8 @@ fn run_command<R: Threads + Sync, G: Gate>(
     Ok(index)
 }
 
-/// The replies to the commands, run in order on an index of no documents, which depend neither on the runtime nor on the gate nor
-/// on the cut.
+/// The replies to the commands, run in order on an index of no documents, which depend neither on the runtime nor on the gate
+/// nor on the cut.
 pub fn run_index<R: Threads + Sync, G: Gate>(
     rt: &R,
     alloc: Global,

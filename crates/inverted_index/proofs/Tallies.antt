@@ -1,5 +1,5 @@
 -- How often terms are among some.
-use Rattle.std.proofs.Common.{◌≡◌, ℕ, zero, suc, ◌+◌, ◌-◌, ◌^◌, ◌<◌, ◌≤◌, Bool, true, false, cond, min, List, [], ◌∷◌, ◌++◌, Option, Some, None, length, refl, sym, ap, ap₂, ◌∙◌, map, get_or, subst, arith}
+use Rattle.std.proofs.Common.{◌≡◌, ℕ, zero, suc, ◌+◌, ◌-◌, ◌^◌, ◌<◌, ◌≤◌, Bool, true, false, cond, min, List, [], ◌∷◌, ◌++◌, Option, Some, None, length, refl, sym, ap, ap₂, ◌∙◌, map, subst, arith}
 use Rattle.std.specs.declared.cmp.Ordering.{Ordering}
 use Rattle.std.specs.declared.cmp.Ordering.TheVariants.{Less, Equal, Greater}
 use Rattle.std.specs.Option.{option_or}
@@ -123,14 +123,8 @@ tally_fits terms low t w is =
 pub batch_built : (doc : ℕ) (W : List (List ℕ × ℕ)) → IsIncreasing bytes_cmp W → build bytes_cmp (batch doc W) ≡ batch doc W
 batch_built doc W s = build-increasing nat_list_cmp_total exact_bytes (batch doc W) (IsIncreasing-revalued (single doc) bytes_cmp W s)
 
-pub tally_single : (terms : List (List ℕ)) (t u : List ℕ) → t ≡ u → u ≡ get_or terms 0 u → 0 < length terms → length terms < 2 → (t, 1) ∷ [] ≡ tally terms
-tally_single [] t u same is some few = absurd (omega arith)
-tally_single (s ∷ []) t u same is some few = ap (λ x. (x, 1) ∷ []) (same ∙ is) ∙ tally_one s
-tally_single (s ∷ r ∷ terms) t u same is some few = absurd (omega arith)
+pub rises_of : (W : List (List ℕ × ℕ)) (terms : List (List ℕ)) → W ≡ tally terms → IsIncreasing bytes_cmp W
+rises_of W terms is = let P : List (List ℕ × ℕ) → Type 0 = λ w. IsIncreasing bytes_cmp w in subst P (sym is) (tally_rises terms)
 
--- what a text's tally keeps
-pub fit_kept : (W C : List (List ℕ × ℕ)) (terms : List (List ℕ)) → W ≡ C → C ≡ tally terms → length terms ≤ 2 ^ 64 - 1 → AreFit W
-fit_kept W C terms same is low = let P : List (List ℕ × ℕ) → Type 0 = λ w. AreFit w in subst P (sym (same ∙ is)) (tally_fits terms low)
-
-pub rises_kept : (W C : List (List ℕ × ℕ)) (terms : List (List ℕ)) → W ≡ C → C ≡ tally terms → IsIncreasing bytes_cmp W
-rises_kept W C terms same is = let P : List (List ℕ × ℕ) → Type 0 = λ w. IsIncreasing bytes_cmp w in subst P (sym (same ∙ is)) (tally_rises terms)
+pub fits_of : (W : List (List ℕ × ℕ)) (terms : List (List ℕ)) → W ≡ tally terms → length terms ≤ 2 ^ 64 - 1 → AreFit W
+fits_of W terms is low = let P : List (List ℕ × ℕ) → Type 0 = λ w. AreFit w in subst P (sym is) (tally_fits terms low)

@@ -57,7 +57,7 @@ impl Index {
         let Some(known) = with_doc::<Brand>(alloc, &self.known, doc, Blank::new(1))? else {
             return Ok(Added::Known);
         };
-        let weights = weights_of(rt, alloc, gate, cut, text)?;
+        let weights = weights_of(alloc, text)?;
         let batch = batch(rt, alloc, gate, cut, doc, &weights)?;
         let lists = self.lists.union(rt, alloc, gate, cut, &batch, &Merge)?;
         Ok(Added::New {

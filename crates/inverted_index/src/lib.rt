@@ -10,6 +10,8 @@ mod queries;
 mod ranking;
 mod tally;
 mod term;
+#[cfg(test)]
+mod tests;
 mod text;
 
 pub use adding::Added;

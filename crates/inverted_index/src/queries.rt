@@ -36,8 +36,8 @@ fn find_one<C: Ledger>(
 }
 
 impl Index {
-    /// The documents that have all terms, by rising number. The weight of a document is the saturating sum of its weights of the
-    /// terms, as often as they are named. Postings are intersected smallest first.
+    /// The documents that have all terms, by rising number. The weight of a document is the saturating sum of its weights of
+    /// the terms, as often as they are named. Postings are intersected smallest first.
     pub fn all_of<R: Threads + Sync, G: Gate>(
         &self,
         rt: &R,
@@ -54,8 +54,8 @@ impl Index {
         hits_of(alloc, &found)
     }
 
-    /// The documents that have one of the terms, by rising number, with weights as `all_of` has them; a term that a document hasn't
-    /// weighs 0 there.
+    /// The documents that have one of the terms, by rising number, with weights as `all_of` has them; a term that a document
+    /// hasn't weighs 0 there.
     pub fn any_of<R: Threads + Sync, G: Gate>(
         &self,
         rt: &R,
@@ -89,8 +89,8 @@ impl Index {
         hits_of(alloc, &found)
     }
 
-    /// The first `k` documents that have a term, by falling weight, and by rising number where weights are equal. For n documents
-    /// that have the term it takes time linear in k * log n.
+    /// The first `k` documents that have a term, by falling weight, and by rising number where weights are equal. For n
+    /// documents that have the term it takes time linear in k * log n.
     pub fn top(&self, alloc: Global, k: u64, term: &Term) -> Result<Vec<Hit>, NoMemory>
         ensures { IfOk result (λ hits. hits.items ≡ hits_of (top self.now k term.now)) }
     {

@@ -61,7 +61,8 @@ fn heaviest(alloc: Global, weights: &Weights) -> Result<Option<Hit>, NoMemory>
     }
 }
 
-/// The first `k` documents by falling weight, and by rising number where weights are equal. Each takes time linear in the height.
+/// The first `k` documents by falling weight, and by rising number where weights are equal. Each takes time linear in the
+/// height.
 #[tactic(auto, using(crate::proofs::Ranks::low_dropped, crate::proofs::Ranks::top_more, crate::proofs::Ranks::top_done, crate::proofs::Ranks::top_end))]
 pub(crate) fn top<C: Ledger>(
     alloc: Global,

@@ -1,5 +1,5 @@
 //! How often terms are among some.
-ghost use Rattle.std.specs.Prelude.{◌≡◌, IfOk, OnOk, length, ◌<◌, ◌^◌};
+ghost use Rattle.std.specs.Prelude.{◌≡◌, IfOk, [], ◌∷◌, length, ◌<◌, ◌^◌};
 ghost use Rattle.map_model.specs.Entries.{IsIncreasing};
 ghost use Rattle.inverted_index.specs.Documents.{AreFit};
 ghost use Rattle.inverted_index.specs.Merging.{batch};
@@ -9,49 +9,43 @@ use crate::index::Lists;
 use crate::postings::Postings;
 use crate::term::Term;
 use crate::text::terms_of;
-use aug_map::PlainMap;
-use aug_monoid::{NoMemory, SatSum, Share, SumMax};
+use aug_monoid::{NoMemory, SatSum, Share};
+use entry_lists::union_of;
 use fork_join::{Cut, Gate};
 use std::alloc::Global;
 use std::marker::Sync;
 use std::thread::Threads;
 
-/// How often each term is there.
-type Counts = PlainMap<SumMax<Term>>;
+/// A term that is there once.
+#[tactic(auto, using(crate::proofs::Tallies::tally_one))]
+fn once(alloc: Global, term: &Term) -> Result<Vec<(Term, u64)>, NoMemory>
+    ensures { IfOk result (λ counts. counts.items ≡ tally (term.now ∷ [])) }
+{
+    let mut counts = Vec::with_capacity(alloc, 1)?;
+    counts.push((term.share(alloc)?, 1))?;
+    Ok(counts)
+}
 
-/// Each of some terms with how often it is among them: the counts of the two halves, united. For n terms it takes about
-/// n * log n work.
-#[tactic(auto, using(crate::proofs::Tallies::tally_one, crate::proofs::Tallies::tally_both))]
-fn tally<R: Threads + Sync, G: Gate>(
-    rt: &R,
-    alloc: Global,
-    gate: &G,
-    cut: Cut,
-    terms: &[Term],
-) -> Result<Counts, NoMemory>
-    ensures { IfOk result (λ counts. counts.entries ≡ tally terms.now) }
+/// Each of some terms with how often it is among them, in the order of bytes: the counts of the two halves, united. For n terms
+/// it takes about n * log n work.
+#[tactic(auto, using(crate::proofs::Tallies::tally_both, crate::proofs::Tallies::tally_rises))]
+fn tally(alloc: Global, terms: &[Term]) -> Result<Vec<(Term, u64)>, NoMemory>
+    ensures { IfOk result (λ counts. counts.items ≡ tally terms.now) }
 {
     match terms {
-        [] => Ok(Counts::empty()),
-        [term] => Counts::single(alloc, term.share(alloc)?, 1),
+        [] => Ok(Vec::new(alloc)),
+        [term] => once(alloc, term),
         _ => {
             let (front, back) = terms.split_at(terms.len() / 2);
-            let front = tally(rt, alloc, gate, cut, front)?;
-            let back = tally(rt, alloc, gate, cut, back)?;
-            front.union(rt, alloc, gate, cut, &back, &SatSum)
+            let front = tally(alloc, front)?;
+            let back = tally(alloc, back)?;
+            union_of(alloc, &front, &back, &SatSum)
         }
     }
 }
 
 /// The terms of a text, each with how often the text has it, in the order of bytes.
-#[tactic(auto, using(crate::proofs::Tallies::fit_kept, crate::proofs::Tallies::rises_kept))]
-pub(crate) fn weights_of<R: Threads + Sync, G: Gate>(
-    rt: &R,
-    alloc: Global,
-    gate: &G,
-    cut: Cut,
-    text: &[u8],
-) -> Result<Vec<(Term, u64)>, NoMemory>
+pub(crate) fn weights_of(alloc: Global, text: &[u8]) -> Result<Vec<(Term, u64)>, NoMemory>
     ensures value { IfOk result (λ weights. weights.items ≡ weights_of text.now) }
     ensures rises { IfOk result (λ weights. IsIncreasing bytes_cmp weights.items) }
     ensures fit { IfOk result (λ weights. AreFit weights.items) }
@@ -59,9 +53,7 @@ pub(crate) fn weights_of<R: Threads + Sync, G: Gate>(
     let terms = terms_of(alloc, text)?;
     let terms = terms.as_slice();
     let _number = terms.len();
-    let counts = tally(rt, alloc, gate, cut, terms)?;
-    let weights = counts.to_vec(alloc)?;
-    Ok(weights)
+    tally(alloc, terms)
 }
 
 /// The postings of one document's terms.

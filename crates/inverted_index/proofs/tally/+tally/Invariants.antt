@@ -2,4 +2,4 @@ use Rattle.std.proofs.Common.{length}
 use Rattle.inverted_index.proofs.tally.+tally.Given as goal
 
 abbrev pub decreases-tally : goal.decreases-tally
-decreases-tally g l = length l.terms.now
+decreases-tally l = length l.terms.now
