@@ -3,7 +3,6 @@ use Rattle.std.proofs.Common.{◌≡◌, ◌∙◌, ◌+◌, ◌<◌, ◌∷◌,
 use Rattle.std.specs.declared.cmp.Ordering.{Ordering}
 use Rattle.std.specs.declared.cmp.Ordering.TheVariants.{Less, Equal, Greater}
 use Rattle.std.specs.List.{filter, list_any}
-use Rattle.std.specs.Map.{keys_of}
 use Rattle.std.specs.Option.{is_none, is_some, option_and_then, option_map, option_map_or, option_or}
 use Rattle.std.specs.Ordering.{is_eq, nat_cmp}
 use Rattle.std.proofs.lemmas.Bool.{false≢true}
@@ -12,16 +11,16 @@ use Rattle.std.proofs.lemmas.Map.Made.{is_some-lookup}
 use Rattle.std.proofs.lemmas.Map.Views.{exact_unsigned_eq}
 use Rattle.std.proofs.lemmas.Option.{none-some, same_Some}
 use Rattle.map_model.specs.Entries.{IsIncreasing, lookup}
-use Rattle.map_model.specs.Operations.{build, dels}
+use Rattle.map_model.specs.Operations.{build}
 use Rattle.map_model.specs.SetOperations.{difference, intersect, union}
 use Rattle.map_model.proofs.Differences.{IsIncreasing-difference, lookup-difference}
 use Rattle.map_model.proofs.Intersections.{IsIncreasing-intersect, lookup-intersect, met}
 use Rattle.map_model.proofs.Keys.{IsIncreasing-filter}
 use Rattle.map_model.proofs.Lookups.{first_found, lookup-filter, option_or-none}
 use Rattle.map_model.proofs.NatKeys.{nat_exact}
-use Rattle.map_model.proofs.Operations.{IsIncreasing-after, build-increasing, lookup-after_dels}
+use Rattle.map_model.proofs.Operations.{build-increasing}
 use Rattle.map_model.proofs.Unions.{IsIncreasing-union, lookup-union, united}
-use Rattle.graph_snap.specs.Batches.{AreAlikeBut, has_elements, minus}
+use Rattle.graph_snap.specs.Batches.{AreAlikeBut, has_elements}
 use Rattle.graph_snap.specs.Edges.{AreSets, IsFilled, IsGraph, Sets, edge_order, edges_of, elements, with_edges, without_edges}
 use Rattle.graph_snap.specs.Merging.{merged}
 use Rattle.graph_snap.proofs.Sets.{edge_in, found-edges_of, found-with_edges, found-without_edges, graph-edges_of, graph-with_edges, graph-without_edges, keys-elements, same_graphs}
@@ -47,10 +46,10 @@ either (Some a) (Some b) = refl
 found-merged : (a b : List (ℕ × Unit {0})) (v : ℕ) → IsIncreasing nat_cmp b → lookup nat_cmp (merged a b) v ≡ option_or (lookup nat_cmp b v) (lookup nat_cmp a v)
 found-merged a b v s = lookup-union nat_cmp_total nat_exact (λ x y. x) a b v s ∙ united-or (lookup nat_cmp a v) (lookup nat_cmp b v) ∙ either (lookup nat_cmp a v) (lookup nat_cmp b v)
 
-found-minus : (a b : List (ℕ × Unit {0})) (v : ℕ) → lookup nat_cmp (minus a b) v ≡ cond (is_some (lookup nat_cmp b v)) None (lookup nat_cmp a v)
-found-minus a b v =
-    lookup-after_dels nat_cmp_total nat_exact (keys_of b) a v
-    ∙ ap (λ t. cond t None (lookup nat_cmp a v)) (sym (is_some-lookup (λ k. is_eq (nat_cmp k v)) b))
+found-without : (a b : List (ℕ × Unit {0})) (v : ℕ) → lookup nat_cmp (difference nat_cmp a b) v ≡ cond (is_some (lookup nat_cmp b v)) None (lookup nat_cmp a v)
+found-without a b v =
+    lookup-difference nat_exact a b v
+    ∙ elim (lookup nat_cmp b v) as (λ o. cond (is_none o) (lookup nat_cmp a v) None ≡ cond (is_some o) None (lookup nat_cmp a v)) [ None ↦ refl | Some x ↦ refl ]
 
 -- a set with an element still has one when more are united with it
 merged_some : (a b : List (ℕ × Unit {0})) → 0 < length a → IsIncreasing nat_cmp b → 0 < length (merged a b)
@@ -122,7 +121,7 @@ module _ (sets batch : Sets) (are : AreSets sets) (be : AreSets batch) where
   -- ---- without the sets of a batch
 
   abbrev kept : Sets
-  kept = filter (λ e. has_elements e.1) (intersect nat_cmp minus sets batch)
+  kept = filter (λ e. has_elements e.1) (intersect nat_cmp (difference nat_cmp) sets batch)
 
   abbrev left : Sets
   left = union nat_cmp (λ x y. x) (difference nat_cmp sets batch) kept
@@ -133,20 +132,20 @@ module _ (sets batch : Sets) (are : AreSets sets) (be : AreSets batch) where
 
   -- what is left at a vertex where the maps have o and p
   abbrev left_at : Option (List (ℕ × Unit {0})) → Option (List (ℕ × Unit {0})) → Option (List (ℕ × Unit {0}))
-  left_at o p = united (λ x y. x) (cond (is_none p) o None) (option_and_then if_filled (met minus o p))
+  left_at o p = united (λ x y. x) (cond (is_none p) o None) (option_and_then if_filled (met (difference nat_cmp) o p))
 
-  common_rises : IsIncreasing nat_cmp (intersect nat_cmp minus sets batch)
-  common_rises = IsIncreasing-intersect nat_cmp minus sets batch are.increasing
+  common_rises : IsIncreasing nat_cmp (intersect nat_cmp (difference nat_cmp) sets batch)
+  common_rises = IsIncreasing-intersect nat_cmp (difference nat_cmp) sets batch are.increasing
 
   found-left : (u : ℕ) → lookup nat_cmp left u ≡ left_at (lookup nat_cmp sets u) (lookup nat_cmp batch u)
   found-left u =
-      lookup-union nat_cmp_total nat_exact (λ x y. x) (difference nat_cmp sets batch) kept u (IsIncreasing-filter nat_cmp (λ e. has_elements e.1) (intersect nat_cmp minus sets batch) common_rises)
+      lookup-union nat_cmp_total nat_exact (λ x y. x) (difference nat_cmp sets batch) kept u (IsIncreasing-filter nat_cmp (λ e. has_elements e.1) (intersect nat_cmp (difference nat_cmp) sets batch) common_rises)
       ∙ ap₂ (united (λ x y. x)) (lookup-difference nat_exact sets batch u)
-      (lookup-filter nat_cmp_total nat_exact (λ _ ns. has_elements ns) (intersect nat_cmp minus sets batch) u common_rises
-      ∙ ap (option_and_then if_filled) (lookup-intersect nat_exact minus sets batch u))
+      (lookup-filter nat_cmp_total nat_exact (λ _ ns. has_elements ns) (intersect nat_cmp (difference nat_cmp) sets batch) u common_rises
+      ∙ ap (option_and_then if_filled) (lookup-intersect nat_exact (difference nat_cmp) sets batch u))
 
   -- at the values that the program has
-  pub left_is : (common filled others new : Sets) → common ≡ intersect nat_cmp minus sets batch → filled ≡ filter (λ e. has_elements e.1) common → others ≡ difference nat_cmp sets batch → new ≡ union nat_cmp (λ x y. x) others filled → new ≡ left
+  pub left_is : (common filled others new : Sets) → common ≡ intersect nat_cmp (difference nat_cmp) sets batch → filled ≡ filter (λ e. has_elements e.1) common → others ≡ difference nat_cmp sets batch → new ≡ union nat_cmp (λ x y. x) others filled → new ≡ left
   left_is common filled others new c f o n = n ∙ ap₂ (λ a b. union nat_cmp (λ x y. x) a b) o (f ∙ ap (filter (λ (e : ℕ × List (ℕ × Unit {0})). has_elements e.1)) c)
 
   pub sets-left : AreSets left
@@ -160,8 +159,8 @@ module _ (sets batch : Sets) (are : AreSets sets) (be : AreSets batch) where
       from u ns None (Some y) a h = absurd (none-some ns h)
       from u ns (Some x) None a h = are.filled u ns (a ∙ h)
       from u ns (Some x) (Some y) a h =
-          elim (has_elements (minus x y)) as (λ t. has_elements (minus x y) ≡ t → united (λ x y. x) None (cond t (Some (minus x y)) None) ≡ Some ns → IsFilled ns) [
-            | true ↦ λ some h. subst IsFilled (same_Some (minus x y) ns h) (record { some = some_elements (minus x y) some; increasing = IsIncreasing-after nat_cmp_total (dels (keys_of y)) x (are.filled u x a).increasing })
+          elim (has_elements (difference nat_cmp x y)) as (λ t. has_elements (difference nat_cmp x y) ≡ t → united (λ x y. x) None (cond t (Some (difference nat_cmp x y)) None) ≡ Some ns → IsFilled ns) [
+            | true ↦ λ some h. subst IsFilled (same_Some (difference nat_cmp x y) ns h) (record { some = some_elements (difference nat_cmp x y) some; increasing = IsIncreasing-difference nat_cmp x y (are.filled u x a).increasing })
             | false ↦ λ _ h. absurd (none-some ns h)
           ] refl h
 
@@ -176,11 +175,11 @@ module _ (sets batch : Sets) (are : AreSets sets) (be : AreSets batch) where
       from None (Some y) = elim (is_some (lookup nat_cmp y v)) as (λ t. ◌≡◌ {A = Option (Unit {0})} None (cond t None None)) [ true ↦ refl | false ↦ refl ]
       from (Some x) None = refl
       from (Some x) (Some y) =
-          elim (has_elements (minus x y)) as (λ t. has_elements (minus x y) ≡ t → at (united (λ x y. x) None (cond t (Some (minus x y)) None)) ≡ lookup nat_cmp (minus x y) v) [
+          elim (has_elements (difference nat_cmp x y)) as (λ t. has_elements (difference nat_cmp x y) ≡ t → at (united (λ x y. x) None (cond t (Some (difference nat_cmp x y)) None)) ≡ lookup nat_cmp (difference nat_cmp x y) v) [
             | true ↦ λ _. refl
-            | false ↦ λ none. sym (no_elements (minus x y) v none)
+            | false ↦ λ none. sym (no_elements (difference nat_cmp x y) v none)
           ] refl
-          ∙ found-minus x y v
+          ∙ found-without x y v
 
   pub edges-left : edges_of left ≡ without_edges (edges_of sets) (edges_of batch)
   edges-left =

@@ -7,4 +7,4 @@ pub mod Runs
 pub mod Recounts
 pub mod Batched
 pub mod Distances
-pub mod Removals
+pub mod Crosses

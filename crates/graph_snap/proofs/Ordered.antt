@@ -1,16 +1,14 @@
 -- A set that is in order is what its elements build.
-use Rattle.std.proofs.Common.{◌≡◌, ◌∙◌, ◌+◌, ◌-◌, ◌<◌, ◌≤◌, [], ◌∷◌, ℕ, List, length, map, take, get_or, ap, ap₂, subst, sym, arith}
+use Rattle.std.proofs.Common.{◌≡◌, ◌∙◌, ◌-◌, ◌≤◌, [], ℕ, List, length, map, ap, sym, arith}
 use Rattle.std.specs.Ordering.{nat_cmp}
 use Rattle.std.proofs.lemmas.Cmp.{nat_cmp_total}
 use Rattle.map_model.specs.Entries.{IsIncreasing}
-use Rattle.std.proofs.lemmas.List.{get_or_default, map_more}
 use Rattle.map_model.specs.Operations.{build}
 use Rattle.map_model.specs.SetOperations.{difference}
-use Rattle.map_model.proofs.Folds.{fold-take_more}
 use Rattle.map_model.proofs.NatKeys.{nat_exact}
 use Rattle.map_model.proofs.Operations.{build-increasing}
 use Rattle.graph_snap.specs.Edges.{AreSets, Sets, edges_of, out_neighbours, set_at}
-use Rattle.graph_snap.specs.Merging.{at_distance, in_order_fits, merged, merged_monoid, neighbours_of, next_front, set_in_order}
+use Rattle.graph_snap.specs.Merging.{at_distance, neighbours_of, next_front, set_in_order}
 use Rattle.graph_snap.proofs.Counts.{length-out}
 use Rattle.graph_snap.proofs.Fronts.{near_rises}
 use Rattle.graph_snap.proofs.Sets.{length-replace}
@@ -30,12 +28,6 @@ set_within sets u are = let e = length-replace sets u [] are in omega (arith, e)
 
 pub out_is : (sets : Sets) (g : List (ℕ × ℕ)) (u n : ℕ) → edges_of sets ≡ g → AreSets sets → n ≡ length (set_at sets u) → n ≡ length (out_neighbours g u)
 out_is sets g u n is are m = m ∙ sym (length-out sets u are) ∙ ap (λ h. length (out_neighbours h u)) is
-
--- one vertex more of a front
-pub near_more : (sets : Sets) (front : List (ℕ × ℕ)) (i : ℕ) (d : ℕ × ℕ) (near set next : List (ℕ × Unit {0})) → i < length front → near ≡ neighbours_of sets (take i front) → set ≡ set_in_order sets (get_or front i d).0 → next ≡ merged near set → next ≡ neighbours_of sets (take (i + 1) front)
-near_more sets front i d near set next h is s n =
-    let e : ℕ × ℕ = get_or front i d in
-    n ∙ ap₂ merged is s ∙ sym (fold-take_more merged_monoid (λ (u w : ℕ). in_order_fits sets u) front i e h (get_or_default front i d e h))
 
 pub next_is : (sets : Sets) (front found : List (ℕ × ℕ)) (d : ℕ) (pairs shown near next : List (ℕ × ℕ)) → pairs ≡ at_distance d (neighbours_of sets front) → shown ≡ pairs → near ≡ build nat_cmp shown → next ≡ difference nat_cmp near found → next ≡ next_front sets front found d
 next_is sets front found d pairs shown near next p s m n =

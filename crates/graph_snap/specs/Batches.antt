@@ -1,9 +1,7 @@
 -- Batches of edges, and maps of sets that differ at few vertices.
 use Rattle.std.specs.Prelude.{◌≡◌, ◌==◌, [], ◌∷◌, ℕ, suc, Bool, List, None, cond, length, map, not}
-use Rattle.std.specs.Map.{keys_of}
 use Rattle.std.specs.Ordering.{nat_cmp}
 use Rattle.map_model.specs.Entries.{lookup}
-use Rattle.map_model.specs.Operations.{after, dels}
 use Rattle.aug_monoid.specs.declared.pair64.Pair64.{Pair64}
 use Rattle.graph_snap.specs.Edges.{Sets, edges_of, with_edges, without_edges}
 use Rattle.graph_snap.specs.declared.edge.Edge.{Edge}
@@ -23,10 +21,6 @@ ends g = map (λ e. (e.1, tt)) g
 abbrev pub run : ℕ → List (ℕ × ℕ) → ℕ
 run u [] = 0
 run u (e ∷ g) = cond (e.0 == u) (suc (run u g)) 0
-
--- the elements of a that b hasn't
-abbrev pub minus : List (ℕ × Unit {0}) → List (ℕ × Unit {0}) → List (ℕ × Unit {0})
-minus a b = after nat_cmp a (dels (keys_of b))
 
 abbrev pub has_elements : List (ℕ × Unit {0}) → Bool
 has_elements ns = not (length ns == 0)

@@ -124,7 +124,8 @@ impl Graph {
     }
 
     /// The vertices that walks from `from` reach, in order, each with the least number of edges of such a walk; `from` itself
-    /// is at 0. For each distance it unites the sets of out-neighbours of the vertices there, one after another.
+    /// is at 0. For each distance it unites the sets of out-neighbours of the vertices there, in halves that fork where the cut
+    /// allows it.
     pub fn bfs<R: Threads + Sync, G: Gate>(
         &self,
         rt: &R,

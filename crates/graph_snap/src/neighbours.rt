@@ -1,18 +1,17 @@
 //! Sets of out-neighbours.
-ghost use Rattle.std.specs.Prelude.{◌≡◌, ◌<◌, [], length, IfOk};
-ghost use Rattle.std.specs.Map.{keys_of};
+ghost use Rattle.std.specs.Prelude.{◌≡◌, [], length, IfOk};
 ghost use Rattle.std.specs.Ordering.{nat_cmp};
 ghost use Rattle.map_model.specs.Entries.{IsIncreasing};
-ghost use Rattle.map_model.specs.Operations.{after, build, dels};
-ghost use Rattle.graph_snap.specs.Batches.{ends, has_elements, minus};
+ghost use Rattle.map_model.specs.Operations.{build};
+ghost use Rattle.map_model.specs.SetOperations.{difference};
+ghost use Rattle.graph_snap.specs.Batches.{ends, has_elements};
 ghost use Rattle.graph_snap.specs.Merging.{merged};
 
 use aug_map::CodedMap;
-use aug_monoid::{First, NoMemory, Nothing, Resolve, Share, Steps, Test};
+use aug_monoid::{First, NoMemory, Nothing, Resolve, Share, Test};
 use fork_join::{Cut, Gate};
 use std::alloc::Global;
-use std::marker::{Brand, Model, Sync};
-use std::sync::ledger::{Blank, Ledger};
+use std::marker::{Model, Sync};
 use std::thread::Threads;
 
 /// The set of a vertex's out-neighbours, as the keys of a map.
@@ -96,31 +95,11 @@ impl Neighbours {
 
     /// The elements that the other set hasn't.
     fn minus(&self, alloc: Global, other: &Neighbours) -> Result<Neighbours, NoMemory>
-        ensures { IfOk result (λ set. set ≡ minus self.now other.now) }
+        ensures { IfOk result (λ set. set ≡ difference nat_cmp self.now other.now) }
     {
-        let elements = other.set.to_vec(alloc)?;
-        minus_counted::<Brand>(alloc, self, &elements, Blank::new(1))
+        let set = CodedMap::subtract(alloc, &self.set, &other.set)?;
+        Ok(Neighbours { set })
     }
-}
-
-// A set without some elements, with a counter that the caller gives up.
-fn minus_counted<C: Ledger>(
-    alloc: Global,
-    from: &Neighbours,
-    elements: &[(u64, ())],
-    blank: Blank,
-) -> Result<Neighbours, NoMemory>
-    requires name { blank.name ≡ C.name }
-    requires parts { blank.parts ≡ C.parts }
-    requires some { 0 < blank.parts }
-    ensures { IfOk result (λ left. left ≡ after nat_cmp from.now (dels (keys_of elements.now))) }
-{
-    let mut steps = Steps::<C>::start(blank);
-    let mut set = from.set.share(alloc)?;
-    for (vertex, _) in elements {
-        set = set.del(alloc, vertex, &mut steps)?;
-    }
-    Ok(Neighbours { set })
 }
 
 /// The elements of either set.
@@ -145,7 +124,7 @@ impl Resolve<Neighbours> for Merge {
 pub(crate) struct Minus;
 
 impl Resolve<Neighbours> for Minus {
-    ghost resolved = { λ _ a b. minus a b };
+    ghost resolved = { λ _. difference nat_cmp };
 
     fn resolve(
         &self,

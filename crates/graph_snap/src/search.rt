@@ -1,14 +1,17 @@
 //! The search by fronts: each has the vertices at one distance.
-ghost use Rattle.std.specs.Prelude.{◌≡◌, ◌+◌, IfOk};
+ghost use Rattle.std.specs.Prelude.{◌≡◌, ◌+◌, [], IfOk};
+ghost use Rattle.std.specs.Ordering.{nat_cmp};
+ghost use Rattle.map_model.specs.Entries.{IsIncreasing};
 ghost use Rattle.graph_snap.specs.Edges.{AreSets, edges_of};
-ghost use Rattle.graph_snap.specs.Merging.{at_distance, neighbours_of, next_front, set_in_order};
+ghost use Rattle.graph_snap.specs.Merging.{at_distance, in_order_fits, merged, merged_monoid};
+ghost use Rattle.graph_snap.specs.Merging.{neighbours_of, next_front, set_in_order};
 ghost use Rattle.graph_snap.specs.Walks.{as_reached, reach};
 
 use crate::edge::Reached;
 use crate::neighbours::Neighbours;
 use crate::vertices::{Vertices, set_at};
 use aug_map::CodedMap;
-use aug_monoid::{First, NoMemory, Nothing, Share};
+use aug_monoid::{First, NoMemory, Nothing, Reduce, Share};
 use fork_join::{Cut, Gate};
 use std::alloc::Global;
 use std::marker::Sync;
@@ -27,20 +30,52 @@ fn set_in_order(alloc: Global, vertices: &Vertices, vertex: u64) -> Result<Neigh
     Ok(set)
 }
 
-// The out-neighbours of all vertices of a front.
-fn neighbours_of(
-    alloc: Global,
-    vertices: &Vertices,
-    front: &[(u64, u64)],
-) -> Result<Neighbours, NoMemory>
-    ensures { IfOk result (λ near. near ≡ neighbours_of vertices.now.entries front.now) }
-{
-    let mut near = Neighbours::none();
-    for (vertex, _) in front {
-        let set = set_in_order(alloc, vertices, *vertex)?;
-        near = near.merged(alloc, &set)?;
+// The set of each vertex of a front, and how two sets meet.
+#[derive(Drop)]
+struct Near<'a> {
+    vertices: &'a Vertices,
+}
+
+impl<'a> Reduce<u64, u64> for Near<'a> {
+    type Out = Neighbours;
+
+    ghost Fits = { λ _. IsIncreasing nat_cmp };
+
+    ghost image_of = { λ n u _. set_in_order n.vertices.now.entries u };
+
+    ghost unit_of = { λ _. [] };
+
+    ghost met = { λ _. merged };
+
+    ghost image_fits = { λ n u _. in_order_fits n.vertices.now.entries u };
+
+    ghost monoid = { λ _. merged_monoid };
+
+    fn of(&self, alloc: Global, key: &u64, _val: &u64) -> Result<Neighbours, NoMemory> {
+        set_in_order(alloc, self.vertices, *key)
     }
-    Ok(near)
+
+    fn unit(&self) -> Neighbours {
+        Neighbours::none()
+    }
+
+    fn meet(&self, alloc: Global, a: Neighbours, b: Neighbours) -> Result<Neighbours, NoMemory> {
+        a.merged(alloc, &b)
+    }
+}
+
+// The out-neighbours of all vertices of a front.
+fn neighbours_of<R: Threads + Sync, G: Gate>(
+    rt: &R,
+    alloc: Global,
+    gate: &G,
+    cut: Cut,
+    vertices: &Vertices,
+    front: &Distances,
+) -> Result<Neighbours, NoMemory>
+    ensures { IfOk result (λ near. near ≡ neighbours_of vertices.now.entries front.now.entries) }
+{
+    front.map_reduce(rt, alloc, gate, cut, &Near { vertices })
 }
 
 // Vertices with one distance.
@@ -52,16 +87,18 @@ fn pairs_at(alloc: Global, near: &[(u64, ())], distance: u64) -> Result<Vec<(u64
 }
 
 // The vertices that an edge leads to from a front, with their distance.
-fn near_pairs(
+fn near_pairs<R: Threads + Sync, G: Gate>(
+    rt: &R,
     alloc: Global,
+    gate: &G,
+    cut: Cut,
     vertices: &Vertices,
     front: &Distances,
     distance: u64,
 ) -> Result<Vec<(u64, u64)>, NoMemory>
     ensures { IfOk result (λ pairs. pairs.items ≡ at_distance distance (neighbours_of vertices.now.entries front.now.entries)) }
 {
-    let entries = front.to_vec(alloc)?;
-    let near = neighbours_of(alloc, vertices, &entries)?;
+    let near = neighbours_of(rt, alloc, gate, cut, vertices, front)?;
     let keys = near.map().to_vec(alloc)?;
     pairs_at(alloc, &keys, distance)
 }
@@ -77,9 +114,9 @@ fn next_front<R: Threads + Sync, G: Gate>(
     found: &Distances,
     distance: u64,
 ) -> Result<Distances, NoMemory>
-    ensures { IfOk result (λ next. next.entries ≡ next_front vertices.now.entries front.now.entries found.now.entries distance) }
+    ensures { IfOk result (λ map. map.entries ≡ next_front vertices.now.entries front.now.entries found.now.entries distance) }
 {
-    let pairs = near_pairs(alloc, vertices, front, distance)?;
+    let pairs = near_pairs(rt, alloc, gate, cut, vertices, front, distance)?;
     let near: Distances = CodedMap::build(rt, alloc, gate, cut, &pairs)?;
     near.difference(rt, alloc, gate, cut, found)
 }
