@@ -1,5 +1,5 @@
 //! Small graphs, whose counts and searches were found by hand.
-use crate::{Edge, Graph};
+use crate::{Edge, Graph, Neighbours};
 use aug_monoid::{NoMemory, Share};
 use fork_join::{Cut, FreeGate};
 use std::alloc::Global;
@@ -32,9 +32,10 @@ fn graph_of<R: Threads + Sync>(
     cut: &[(u64, u64)],
 ) -> Result<Graph, NoMemory> {
     let list = edges(alloc, added)?;
-    let graph = Graph::new().add_edges(rt, alloc, &FreeGate, Cut::new(2, 1), &list)?;
     let without = edges(alloc, cut)?;
-    graph.cut_edges(rt, alloc, &FreeGate, Cut::new(2, 1), &without)
+    let cut = Cut::new(2, 1);
+    let graph = Graph::new().add_edges(rt, alloc, &FreeGate, cut, &list)?;
+    graph.cut_edges(rt, alloc, &FreeGate, cut, &without)
 }
 
 /// How many edges and vertices there are, and the degrees of 1 and 2.
@@ -53,6 +54,14 @@ fn counts<R: Threads + Sync>(
     Ok(counts)
 }
 
+fn sizes_of(alloc: Global, entries: &[(u64, Neighbours)]) -> Result<Vec<u64>, NoMemory> {
+    let mut sizes = Vec::new(alloc);
+    for (_, set) in entries {
+        sizes.push(set.map().size())?;
+    }
+    Ok(sizes)
+}
+
 /// The sizes of the sets of a graph's snapshot, by vertex.
 fn sizes<R: Threads + Sync>(
     rt: &R,
@@ -61,11 +70,7 @@ fn sizes<R: Threads + Sync>(
 ) -> Result<Vec<u64>, NoMemory> {
     let graph = graph_of(rt, alloc, added, &[])?;
     let entries = graph.share(alloc)?.map().to_vec(alloc)?;
-    let mut sizes = Vec::new(alloc);
-    for (_, set) in &entries {
-        sizes.push(set.map().size())?;
-    }
-    Ok(sizes)
+    sizes_of(alloc, &entries)
 }
 
 /// What a search finds, as vertices with their distances.
