@@ -1,9 +1,7 @@
 -- Maps of sets, united and taken away from each other.
-use Rattle.std.proofs.Common.{◌≡◌, ◌∙◌, ◌+◌, ◌<◌, ◌∷◌, ◌==◌, [], ℕ, suc, Bool, true, false, not, cond, List, Option, None, Some, length, map, refl, sym, ap, ap₂, subst, arith}
-use Rattle.std.specs.declared.cmp.Ordering.{Ordering}
-use Rattle.std.specs.declared.cmp.Ordering.TheVariants.{Less, Equal, Greater}
+use Rattle.std.proofs.Common.{◌≡◌, ◌∙◌, ◌<◌, ◌∷◌, ◌==◌, [], ℕ, suc, true, false, not, cond, List, Option, None, Some, length, refl, sym, ap, ap₂, subst, arith}
 use Rattle.std.specs.List.{filter, list_any}
-use Rattle.std.specs.Option.{is_none, is_some, option_and_then, option_map, option_map_or, option_or}
+use Rattle.std.specs.Option.{is_none, is_some, option_and_then, option_or}
 use Rattle.std.specs.Ordering.{is_eq, nat_cmp}
 use Rattle.std.proofs.lemmas.Bool.{false≢true}
 use Rattle.std.proofs.lemmas.Cmp.{nat_cmp_total}

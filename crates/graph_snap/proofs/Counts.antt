@@ -1,13 +1,12 @@
 -- How many vertices have out-neighbours, and how many out-neighbours a vertex has.
-use Rattle.std.proofs.Common.{◌≡◌, ◌∙◌, ◌<◌, ◌++◌, ◌∷◌, ◌==◌, ◌||◌, [], ℕ, suc, Bool, true, false, cond, List, Option, None, Some, length, map, slice_get, refl, sym, ap, ap₂, subst, arith}
-use Rattle.std.specs.declared.cmp.Ordering.{Ordering}
+use Rattle.std.proofs.Common.{◌≡◌, ◌∙◌, ◌<◌, ◌++◌, ◌∷◌, ◌==◌, [], ℕ, true, false, cond, List, Option, None, Some, length, map, slice_get, refl, sym, ap, ap₂, arith}
 use Rattle.std.specs.declared.cmp.Ordering.TheVariants.{Less, Equal, Greater}
 use Rattle.std.specs.List.{filter}
 use Rattle.std.specs.Map.{keys_of}
 use Rattle.std.specs.Option.{option_map, option_or, unwrap_or}
 use Rattle.std.specs.Ordering.{is_eq, nat_cmp}
 use Rattle.std.proofs.lemmas.Cmp.{nat_cmp_total}
-use Rattle.std.proofs.lemmas.List.{append-nil, length-map, map-append}
+use Rattle.std.proofs.lemmas.List.{append-nil, map-append}
 use Rattle.std.proofs.lemmas.List.Elements.{filter-append}
 use Rattle.std.proofs.lemmas.Map.Entries.{length-keys_of}
 use Rattle.map_model.specs.Entries.{AllAbove, IsIncreasing, lookup}
@@ -15,8 +14,8 @@ use Rattle.map_model.specs.Operations.{build, last_at}
 use Rattle.map_model.proofs.Lookups.{equal_lookups, lookup-append, lookup-behind, option_or-none}
 use Rattle.map_model.proofs.NatKeys.{is_eq-nat_cmp, nat_exact}
 use Rattle.map_model.proofs.Operations.{IsIncreasing-build, lookup-after_puts}
-use Rattle.graph_snap.specs.Edges.{AreSets, IsFilled, Sets, edges_of, elements, out_neighbours, set_at, sources}
-use Rattle.graph_snap.proofs.Sets.{elements-keys, fan, first_filled, keys-elements, last-element, rest_filled}
+use Rattle.graph_snap.specs.Edges.{AreSets, Sets, edges_of, elements, out_neighbours, set_at, sources}
+use Rattle.graph_snap.proofs.Sets.{fan, first_filled, keys-elements, last-element, rest_filled}
 
 -- ---- out-neighbours
 

@@ -1,11 +1,11 @@
 -- A search by fronts: what it has found at each level, and at the end.
-use Rattle.std.proofs.Common.{◌≡◌, ◌∙◌, ◌+◌, ◌-◌, ◌<◌, ◌≤◌, ◌&&◌, ◌++◌, ◌∷◌, ◌==◌, ◌||◌, [], ℕ, zero, suc, Bool, true, false, cond, List, Option, None, Some, length, map, refl, sym, ap, ap₂, subst, arith, eq-eqb}
+use Rattle.std.proofs.Common.{◌≡◌, ◌∙◌, ◌+◌, ◌-◌, ◌<◌, ◌≤◌, ◌&&◌, ◌∷◌, ◌==◌, ◌||◌, [], ℕ, zero, suc, Bool, true, false, cond, List, Option, None, Some, length, refl, sym, ap, ap₂, subst, arith, eq-eqb}
 use Rattle.std.specs.declared.cmp.Ordering.{Ordering}
 use Rattle.std.specs.declared.cmp.Ordering.TheVariants.{Less, Equal, Greater}
 use Rattle.std.specs.Cmp.{IsTotalOrder}
 use Rattle.std.specs.List.{cons_option, filter_map, flat_map, list_any}
 use Rattle.std.specs.Map.{keys_of}
-use Rattle.std.specs.Option.{is_none, is_some, option_map, option_map_or, option_or, unwrap_or}
+use Rattle.std.specs.Option.{is_none, is_some, option_map, option_or}
 use Rattle.std.specs.Ordering.{is_eq, nat_cmp}
 use Rattle.std.proofs.lemmas.Bool.{and_from, and_parts, false≢true, or_left, or_right}
 use Rattle.std.proofs.lemmas.Cmp.{nat_cmp_total, tied_itself}
@@ -13,19 +13,19 @@ use Rattle.std.proofs.lemmas.Map.Made.{is_some-lookup}
 use Rattle.std.proofs.lemmas.Option.{none-some}
 use Rattle.std.proofs.lemmas.Map.Views.{exact_unsigned_eq}
 use Rattle.map_model.specs.Order.{IsExact}
-use Rattle.map_model.specs.Entries.{AllAbove, AllKeys, IsIncreasing, lookup}
-use Rattle.map_model.specs.Operations.{after, build, last_at, puts}
-use Rattle.map_model.specs.SetOperations.{difference, union}
+use Rattle.map_model.specs.Entries.{AllAbove, IsIncreasing, lookup}
+use Rattle.map_model.specs.Operations.{build, last_at}
+use Rattle.map_model.specs.SetOperations.{union}
 use Rattle.map_model.proofs.Differences.{IsIncreasing-difference, lookup-difference}
 use Rattle.map_model.proofs.Lookups.{equal_lookups, first_found, option_or-none}
 use Rattle.map_model.proofs.NatKeys.{is_eq-nat_cmp, nat_exact}
 use Rattle.map_model.proofs.Operations.{IsIncreasing-build, lookup-after_puts}
 use Rattle.map_model.proofs.Unions.{IsIncreasing-union, lookup-union, united}
 use Rattle.graph_snap.specs.Edges.{Sets, edge_order, edges_of, elements, set_at}
-use Rattle.graph_snap.specs.Merging.{at_distance, merged, neighbours_of, next_front, set_in_order}
-use Rattle.graph_snap.specs.Walks.{distances, least, vertices, walk}
+use Rattle.graph_snap.specs.Merging.{at_distance, neighbours_of, next_front, set_in_order}
+use Rattle.graph_snap.specs.Walks.{distances, least, walk}
 use Rattle.graph_snap.proofs.Levels.{any_found, at_level, least_some, level, level_bound, next_level, none_left, same_bool, settled}
-use Rattle.graph_snap.proofs.Sets.{edge_exact, edge_in, edge_total, elements-keys, found-edges_of, found-set_at, keys-elements, last-element}
+use Rattle.graph_snap.proofs.Sets.{edge_exact, edge_in, edge_total, found-edges_of, found-set_at, keys-elements, last-element}
 
 -- ---- keys that pass a test
 

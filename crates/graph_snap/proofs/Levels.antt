@@ -1,5 +1,5 @@
 -- The least numbers of edges of walks, one level after another.
-use Rattle.std.proofs.Common.{◌≡◌, ◌∙◌, ◌+◌, ◌-◌, ◌<◌, ◌≤◌, ◌&&◌, ◌||◌, ◌==◌, ◌∷◌, [], ℕ, zero, suc, Bool, true, false, not, cond, List, Option, None, Some, length, refl, sym, ap, subst, inl, inr, ◌⊎◌, ⊎_elim, eq-eqb, add-zero, add-suc, arith}
+use Rattle.std.proofs.Common.{◌≡◌, ◌∙◌, ◌+◌, ◌<◌, ◌≤◌, ◌&&◌, ◌||◌, ◌==◌, ◌∷◌, [], ℕ, zero, suc, Bool, true, false, not, cond, List, None, Some, length, refl, sym, ap, subst, inl, inr, add-zero, add-suc, arith}
 use Rattle.std.specs.List.{filter, list_any}
 use Rattle.std.specs.Option.{is_none, is_some, option_or}
 use Rattle.std.proofs.lemmas.Bool.{and_from, and_parts, cases_lt, false≢true, or_right}

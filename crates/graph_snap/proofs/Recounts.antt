@@ -1,6 +1,5 @@
 -- How many edges a map of sets has that differs from another one at some vertices.
-use Rattle.std.proofs.Common.{◌≡◌, ◌∙◌, ◌+◌, ◌-◌, ◌<◌, ◌≤◌, ◌++◌, ◌∷◌, [], ℕ, Bool, true, false, cond, List, Option, None, Some, length, take, drop, get_or, refl, sym, ap, ap₂, subst, arith}
-use Rattle.std.specs.declared.cmp.Ordering.{Ordering}
+use Rattle.std.proofs.Common.{◌≡◌, ◌∙◌, ◌+◌, ◌-◌, ◌<◌, ◌≤◌, ◌++◌, ◌∷◌, [], ℕ, true, false, cond, List, None, Some, length, take, drop, get_or, refl, sym, ap, ap₂, subst, arith}
 use Rattle.std.specs.declared.cmp.Ordering.TheVariants.{Less, Equal, Greater}
 use Rattle.std.specs.Option.{is_some, unwrap_or}
 use Rattle.std.specs.Ordering.{is_eq, nat_cmp}
@@ -8,11 +7,11 @@ use Rattle.std.proofs.lemmas.Cmp.{nat_cmp_total}
 use Rattle.std.proofs.lemmas.List.{take_all, take_more}
 use Rattle.map_model.specs.Entries.{IsIncreasing, lookup}
 use Rattle.map_model.proofs.Keys.{IsIncreasing-front, around}
-use Rattle.map_model.proofs.Lookups.{equal_lookups, lookup-all_less, lookup-behind}
+use Rattle.map_model.proofs.Lookups.{equal_lookups, lookup-all_less}
 use Rattle.map_model.proofs.NatKeys.{nat_exact}
 use Rattle.std.proofs.Common.{take-append-drop}
 use Rattle.graph_snap.specs.Batches.{AreAlikeBut}
-use Rattle.graph_snap.specs.Edges.{AreSets, IsFilled, Sets, edges_of, set_at}
+use Rattle.graph_snap.specs.Edges.{AreSets, Sets, edges_of, set_at}
 use Rattle.graph_snap.proofs.Sets.{filled_or_none, found-replace, length-replace, replace, set_rises, sets-replace}
 
 module _ (before after : Sets) where

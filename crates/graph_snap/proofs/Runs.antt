@@ -1,5 +1,5 @@
 -- Edges in order, taken apart into the runs of their first vertices.
-use Rattle.std.proofs.Common.{◌≡◌, ◌∙◌, ◌+◌, ◌<◌, ◌≤◌, ◌++◌, ◌∷◌, ◌==◌, [], ℕ, zero, suc, Bool, true, false, cond, List, Option, None, Some, length, map, take, drop, get_or, slice_get, refl, sym, ap, ap₂, subst, arith, append_assoc, take-append-drop, eq-eqb}
+use Rattle.std.proofs.Common.{◌≡◌, ◌∙◌, ◌+◌, ◌<◌, ◌≤◌, ◌++◌, ◌∷◌, ◌==◌, [], ℕ, suc, Bool, true, false, cond, List, None, Some, length, map, take, drop, get_or, slice_get, refl, sym, ap, ap₂, subst, arith, append_assoc, take-append-drop, eq-eqb}
 use Rattle.std.specs.declared.cmp.Ordering.{Ordering}
 use Rattle.std.specs.declared.cmp.Ordering.TheVariants.{Less, Equal, Greater}
 use Rattle.std.specs.List.{filter}
@@ -15,7 +15,7 @@ use Rattle.std.proofs.lemmas.Map.Views.{exact_unsigned_eq}
 use Rattle.std.proofs.lemmas.Option.{none-some, same_Some}
 use Rattle.aug_monoid.specs.Exact.{pair64_cmp}
 use Rattle.aug_monoid.specs.declared.pair64.Pair64.{Pair64}
-use Rattle.map_model.specs.Entries.{AllAbove, AllBelow, AllKeys, IsBefore, IsIncreasing, above, below, lookup, set}
+use Rattle.map_model.specs.Entries.{AllAbove, AllBelow, IsBefore, IsIncreasing, above, below, lookup, set}
 use Rattle.map_model.specs.Operations.{after, build, puts}
 use Rattle.map_model.proofs.Keys.{AllKeys-append, AllKeys-map, IsBefore-from_append, IsIncreasing-append, IsIncreasing-back, IsIncreasing-front, above_all}
 use Rattle.map_model.proofs.Lookups.{lookup-append}

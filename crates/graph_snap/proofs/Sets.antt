@@ -1,28 +1,26 @@
 -- The edges of a map from vertices to sets of out-neighbours.
-use Rattle.std.proofs.Common.{◌≡◌, ◌∙◌, ◌+◌, ◌<◌, ◌≤◌, ◌++◌, ◌∷◌, ◌==◌, ◌||◌, [], ℕ, suc, Bool, true, false, not, cond, List, Option, None, Some, length, map, refl, sym, ap, ap₂, subst, arith, length-append}
+use Rattle.std.proofs.Common.{◌≡◌, ◌∙◌, ◌+◌, ◌++◌, ◌∷◌, [], ℕ, true, false, cond, List, Option, None, Some, length, map, refl, sym, ap, ap₂, subst, arith, length-append}
 use Rattle.std.specs.declared.cmp.Ordering.{Ordering}
 use Rattle.std.specs.declared.cmp.Ordering.TheVariants.{Less, Equal, Greater}
 use Rattle.std.specs.Cmp.{IsTotalOrder}
-use Rattle.std.specs.List.{filter, flat_map, list_any}
+use Rattle.std.specs.List.{list_any}
 use Rattle.std.specs.Map.{keys_of}
-use Rattle.std.specs.Option.{is_some, option_and_then, option_or, unwrap_or}
-use Rattle.std.specs.Ordering.{is_eq, nat_cmp, ordering_then, then_cmp}
+use Rattle.std.specs.Option.{option_and_then, option_or, unwrap_or}
+use Rattle.std.specs.Ordering.{is_eq, nat_cmp, ordering_then}
 use Rattle.std.proofs.lemmas.Cmp.{nat_cmp_total, on_total, then_total, tied_back, tied_itself}
-use Rattle.std.proofs.lemmas.List.{append-nil, map-append, length-map}
+use Rattle.std.proofs.lemmas.List.{map-append, length-map}
 use Rattle.std.proofs.lemmas.Map.Lookups.{exact_pairs, exact_unsigned}
 use Rattle.map_model.specs.Order.{IsExact}
-use Rattle.map_model.specs.Entries.{AllAbove, AllKeys, IsBefore, IsIncreasing, above, below, drop_key, lookup, set}
-use Rattle.map_model.specs.Operations.{after, build, dels, last_at, puts}
+use Rattle.map_model.specs.Entries.{AllAbove, IsBefore, IsIncreasing, above, below, drop_key, lookup, set}
+use Rattle.map_model.specs.Operations.{after, dels, last_at, puts}
 use Rattle.map_model.proofs.Keys.{AllKeys-append, IsIncreasing-append, by_order, greater, lesser}
 use Rattle.map_model.proofs.Lookups.{equal_lookups, first_found, lookup-append, lookup-behind, lookup-drop_key, lookup-set, lookup-tail, option_or-none}
-use Rattle.map_model.proofs.NatKeys.{is_eq-nat_cmp, nat_exact}
-use Rattle.map_model.proofs.Operations.{IsIncreasing-after, IsIncreasing-build, after-append, last_at-cons, lookup-after_dels, lookup-after_puts}
+use Rattle.map_model.proofs.NatKeys.{nat_exact}
+use Rattle.map_model.proofs.Operations.{IsIncreasing-after, last_at-cons, lookup-after_dels, lookup-after_puts}
 use Rattle.map_model.proofs.Splits.{IsIncreasing-set, IsIncreasing-drop_key, drop_key-split, split_absent, split_found}
-use Rattle.std.proofs.lemmas.Bool.{false≢true}
 use Rattle.std.proofs.lemmas.Option.{none-some, same_Some}
-use Rattle.std.proofs.lemmas.List.Elements.{filter-append}
 use Rattle.std.proofs.lemmas.Grind.{flat_map-append}
-use Rattle.graph_snap.specs.Edges.{AreSets, IsFilled, IsGraph, Sets, edge_order, edges_of, elements, out_neighbours, set_at, sources, with_edges, without_edges}
+use Rattle.graph_snap.specs.Edges.{AreSets, IsFilled, IsGraph, Sets, edge_order, edges_of, elements, set_at, with_edges, without_edges}
 
 pub edge_total : IsTotalOrder edge_order
 edge_total = then_total (on_total (λ (e : ℕ × ℕ). e.0) nat_cmp_total) (on_total (λ (e : ℕ × ℕ). e.1) nat_cmp_total)

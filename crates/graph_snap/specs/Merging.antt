@@ -1,6 +1,5 @@
 -- Sets of vertices, merged.
-use Rattle.std.proofs.Common.{◌≡◌, ◌∙◌, [], ◌∷◌, ℕ, List, Option, None, Some, map, refl, sym, ap}
-use Rattle.std.specs.Option.{option_map, option_map_or, option_or}
+use Rattle.std.proofs.Common.{◌≡◌, ◌∙◌, [], ℕ, List, Option, None, Some, map, refl, sym, ap}
 use Rattle.std.specs.Ordering.{nat_cmp}
 use Rattle.std.proofs.lemmas.Cmp.{nat_cmp_total}
 use Rattle.map_model.specs.Entries.{IsIncreasing, lookup}

@@ -1,8 +1,8 @@
 -- What queries answer, from what is found step by step.
-use Rattle.std.proofs.Common.{◌≡◌, ℕ, ◌-◌, ◌^◌, ◌≤◌, List, [], Option, Some, map, refl, sym, ap, ◌∙◌, subst}
+use Rattle.std.proofs.Common.{◌≡◌, ℕ, List, [], map, sym, ap, ◌∙◌, subst}
 use Rattle.std.specs.List.Sorted.{IsPermutation}
 use Rattle.std.specs.Ordering.{nat_cmp}
-use Rattle.map_model.specs.Entries.{IsIncreasing, lookup}
+use Rattle.map_model.specs.Entries.{IsIncreasing}
 use Rattle.map_model.specs.SetOperations.{difference}
 use Rattle.inverted_index.specs.Documents.{IsIndex, documents_of}
 use Rattle.inverted_index.specs.Merging.{Lists, common, joined, postings_at}

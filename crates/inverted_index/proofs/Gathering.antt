@@ -2,7 +2,7 @@
 use Rattle.std.proofs.Common.{◌≡◌, ℕ, ◌+◌, ◌-◌, ◌^◌, ◌≤◌, Bool, true, false, not, cond, min, ◌&&◌, ◌||◌, List, [], ◌∷◌, Option, Some, None, refl, sym, ap, ap₂, ◌∙◌, map, arith}
 use Rattle.std.specs.List.{fold, sum_by, list_all, list_any, AllByRecursion}
 use Rattle.std.specs.List.Sorted.{IsPermutation}
-use Rattle.std.specs.Option.{option_map, unwrap_or, is_some, is_none}
+use Rattle.std.specs.Option.{unwrap_or, is_some, is_none}
 use Rattle.std.specs.Ordering.{nat_cmp}
 use Rattle.std.proofs.lemmas.Cmp.{nat_cmp_total}
 use Rattle.std.proofs.lemmas.List.Folds.{fold_stays, fold-map, list_all-map}
@@ -17,7 +17,7 @@ use Rattle.map_model.proofs.NatKeys.{nat_exact}
 use Rattle.inverted_index.specs.Terms.{bytes_cmp}
 use Rattle.inverted_index.specs.Documents.{IsIndex, documents_of, terms_in}
 use Rattle.inverted_index.specs.Merging.{Lists, common, joined, postings_at, sat}
-use Rattle.inverted_index.specs.Queries.{Document, all_of, any_of, having, has, if_filled, inverted, picked, total_in, weight_in, without}
+use Rattle.inverted_index.specs.Queries.{all_of, any_of, having, has, if_filled, inverted, total_in, weight_in, without}
 use Rattle.inverted_index.proofs.Documents.{lookup-terms_in, answered}
 
 abbrev pub limit : ℕ

@@ -1,6 +1,5 @@
 -- The heaviest of some documents, and what is left behind it.
-use Rattle.std.proofs.Common.{◌≡◌, ℕ, zero, suc, ◌+◌, ◌-◌, ◌^◌, ◌<◌, ◌≤◌, Bool, true, false, cond, min, max, ◌&&◌, ◌||◌, List, [], ◌∷◌, ◌++◌, Option, Some, None, take, length, refl, sym, ap, ap₂, ◌∙◌, map, append_assoc, append-nil, subst, Result, arith}
-use Rattle.std.specs.declared.cmp.Ordering.{Ordering}
+use Rattle.std.proofs.Common.{◌≡◌, ℕ, zero, suc, ◌+◌, ◌-◌, ◌^◌, ◌<◌, ◌≤◌, Bool, true, false, cond, List, [], ◌∷◌, ◌++◌, Option, Some, None, take, length, refl, sym, ap, ap₂, ◌∙◌, append_assoc, append-nil, subst, Result, arith}
 use Rattle.std.specs.declared.cmp.Ordering.TheVariants.{Less, Equal, Greater}
 use Rattle.std.specs.List.{AllByRecursion, filter}
 use Rattle.std.specs.Option.{IsNone, MatchOption}
@@ -10,7 +9,7 @@ use Rattle.std.specs.Ordering.{nat_cmp, is_eq, is_ne}
 use Rattle.std.proofs.lemmas.Result.{IfOk-weaker}
 use Rattle.std.proofs.lemmas.Cmp.{nat_cmp_total, tied_itself}
 use Rattle.std.proofs.lemmas.Bool.Decides.{nat_tests}
-use Rattle.map_model.specs.Entries.{AllAbove, AllKeys, IsIncreasing, drop_key, lookup}
+use Rattle.map_model.specs.Entries.{AllAbove, IsIncreasing, drop_key, lookup}
 use Rattle.map_model.specs.Fold.{fold_of}
 use Rattle.aug_monoid.specs.Totals.{totals_base, totals_combine, totals_unit}
 use Rattle.aug_monoid.specs.declared.totals.Totals.{Totals}
@@ -18,7 +17,7 @@ use Rattle.map_model.proofs.Around.{drop_key-around_equal}
 use Rattle.map_model.proofs.Cuts.{length-around}
 use Rattle.map_model.proofs.Keys.{around}
 use Rattle.map_model.proofs.Lookups.{first_found, lookup-behind}
-use Rattle.map_model.proofs.NatKeys.{lt_from_less, nat_exact}
+use Rattle.map_model.proofs.NatKeys.{lt_from_less}
 use Rattle.inverted_index.specs.Queries.{hits_of, ranked, ranked_in, ranks_before}
 use Rattle.inverted_index.specs.declared.hit.Hit.{Hit}
 use Rattle.inverted_index.specs.Ranks.{AreBelow, AreLow, IsFirst, Leads}

@@ -1,5 +1,5 @@
 -- What documents answer. A document is its number and its terms with their weights; an answer is a list of documents' numbers and weights.
-use Rattle.std.specs.Prelude.{◌≡◌, ℕ, ◌+◌, ◌-◌, ◌^◌, ◌==◌, ◌&&◌, ◌||◌, List, [], ◌∷◌, Option, Some, None, Bool, true, false, cond, map, filter, min, nat_lt, nat_le, is_some, unwrap_or, sum_by, take, not}
+use Rattle.std.specs.Prelude.{ℕ, ◌-◌, ◌^◌, ◌==◌, ◌&&◌, ◌||◌, List, [], ◌∷◌, Option, Some, None, Bool, cond, map, filter, min, nat_lt, nat_le, is_some, unwrap_or, sum_by, take, not}
 use Rattle.std.specs.List.{list_all, list_any}
 use Rattle.std.specs.Ordering.{nat_cmp}
 use Rattle.map_model.specs.Entries.{lookup}
