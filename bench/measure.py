@@ -85,9 +85,9 @@ def table(head, rows):
     return "\n".join("| " + " | ".join(line) + " |" for line in lines)
 
 
-def write(mark, title, text):
-    """Puts a text between its marks in docs/PERFORMANCE.md."""
-    path, begin, end = os.path.join(TOP, "docs", "PERFORMANCE.md"), f"<!-- {mark} -->", f"<!-- /{mark} -->"
+def write(mark, title, text, name="PERFORMANCE.md"):
+    """Puts a text between its marks in a file of docs/."""
+    path, begin, end = os.path.join(TOP, "docs", name), f"<!-- {mark} -->", f"<!-- /{mark} -->"
     with open(path) as file:
         old = file.read()
     if begin not in old:
