@@ -12,6 +12,3 @@ pub use filtering::filtered_of;
 pub use meeting::intersect_of;
 pub use pushing::{push_all_shared, push_shared};
 pub use uniting::union_of;
-
-#[cfg(test)]
-mod tests;

@@ -12,6 +12,3 @@ pub use dividing::divide;
 pub use fork::fork2;
 pub use gate::{FreeGate, Gate};
 pub use work::{Divide, Opened};
-
-#[cfg(test)]
-mod tests;

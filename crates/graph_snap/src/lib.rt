@@ -12,6 +12,3 @@ pub use edge::{Edge, Reached};
 pub use graph::Graph;
 pub use neighbours::Neighbours;
 pub use vertices::Vertices;
-
-#[cfg(test)]
-mod tests;

@@ -7,6 +7,3 @@ mod replies;
 mod running;
 
 pub use running::run_graph;
-
-#[cfg(test)]
-mod tests;

@@ -5,7 +5,5 @@ mod asking;
 mod changing;
 mod ends;
 mod intervals;
-#[cfg(test)]
-mod tests;
 
 pub use intervals::Intervals;

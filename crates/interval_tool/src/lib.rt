@@ -4,7 +4,5 @@
 mod command;
 mod hits;
 mod running;
-#[cfg(test)]
-mod tests;
 
 pub use running::run_intervals;

@@ -10,8 +10,6 @@ mod queries;
 mod ranking;
 mod tally;
 mod term;
-#[cfg(test)]
-mod tests;
 mod text;
 
 pub use adding::Added;

@@ -7,8 +7,6 @@ mod cross;
 mod intake;
 mod moves;
 mod submitter;
-#[cfg(test)]
-mod tests;
 
 pub use intake::Intake;
 pub use submitter::{Lane, Refused, Submitter};

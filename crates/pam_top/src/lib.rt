@@ -9,8 +9,6 @@ mod running;
 mod sample;
 mod settings;
 mod status;
-#[cfg(test)]
-mod tests;
 mod top;
 mod words_fault;
 mod writing;

@@ -4,7 +4,5 @@
 mod asking;
 mod board;
 mod running;
-#[cfg(test)]
-mod tests;
 
 pub use running::run_points;

@@ -8,8 +8,6 @@ mod listings;
 mod places;
 mod points;
 mod rows;
-#[cfg(test)]
-mod tests;
 mod totals;
 mod tree;
 

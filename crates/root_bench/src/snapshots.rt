@@ -42,6 +42,11 @@ fn read<R: Wait>(
     Ok(risen)
 }
 
+/// A batch of the number 1.
+fn batch_of_one(alloc: Global) -> Result<Batch<u64>, NoMemory> {
+    Batch::new(alloc, Vec::from_slice(alloc, &[1])?)
+}
+
 /// The writer's version with one more entry, which adds 1.
 fn longer<R: Threads + Sync>(
     rt: &R,
@@ -50,15 +55,14 @@ fn longer<R: Threads + Sync>(
 ) -> Result<Version<Total>, NoMemory>
     ensures { IfOk result (λ version. (version.base ≡ writer.now.base) × IsPrefix writer.now.journal version.journal) }
 {
-    let batch = Batch::new(alloc, vec![in alloc; 1]?)?;
-    let entries = [Entry {
+    let entry = Entry {
         caller: 0,
         tag: 0,
-        batch,
-    }];
+        batch: batch_of_one(alloc)?,
+    };
     writer
         .current()
-        .extend(rt, alloc, &FreeGate, Cut::new(1, 1024), &entries)
+        .extend(rt, alloc, &FreeGate, Cut::new(1, 1024), &[entry])
 }
 
 /// Publishes one version after another as long as a reader is at work.

@@ -21,8 +21,6 @@ mod points;
 mod points_records;
 mod records;
 mod shapes;
-#[cfg(test)]
-mod tests;
 
 pub use fault::{BadRecord, Code, ScriptFault};
 pub use graph::GraphCommand;

@@ -8,8 +8,6 @@ ghost use Rattle.std.specs.Option.{option_copied};
 
 mod page;
 mod rows;
-#[cfg(test)]
-mod tests;
 
 use aug_monoid::{NoMemory, Share};
 use page::Page;

@@ -2,4 +2,3 @@ pub mod Seats
 pub mod Root
 pub mod Steps
 pub mod Answers
-pub mod Sums

@@ -1,4 +1,3 @@
 pub mod Held
 pub mod History
 pub mod Prefix
-pub mod Sums

@@ -4,8 +4,6 @@
 mod batch;
 mod cross;
 mod state;
-#[cfg(test)]
-mod tests;
 mod version;
 
 pub use batch::{Batch, Entry};

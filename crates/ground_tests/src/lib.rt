@@ -1,0 +1,19 @@
+//! Tests of the crates below the trees: the plain program, the instances, slices, forks, turns and blocks.
+#![tactic(auto)]
+
+#[cfg(test)]
+mod blocks;
+#[cfg(test)]
+mod forks;
+#[cfg(test)]
+mod gap_blocks;
+#[cfg(test)]
+mod instances;
+#[cfg(test)]
+mod plain_blocks;
+#[cfg(test)]
+mod plain_program;
+#[cfg(test)]
+mod slices;
+#[cfg(test)]
+mod turns;

@@ -1,0 +1,11 @@
+//! Tests of the libraries over maps: intervals, points, documents and graphs.
+#![tactic(auto)]
+
+#[cfg(test)]
+mod documents;
+#[cfg(test)]
+mod graphs;
+#[cfg(test)]
+mod intervals;
+#[cfg(test)]
+mod points;

@@ -1,0 +1,131 @@
+//! Maps with maps as augmented values.
+ghost use Rattle.std.specs.Prelude.{◌≡◌, ◌+◌, ◌<◌, [], IfOk};
+ghost use Rattle.map_tests.specs.Firsts.{first_filled, first_monoid};
+
+use aug_map::{MapOver, PlainMap};
+use aug_monoid::{Augment, NoMemory, Share, Steps, SumMax};
+use std::alloc::Global;
+use std::marker::{Brand, Model};
+use std::sync::ledger::{Blank, Ledger};
+use std::test::Fail;
+
+/// Weights by number.
+#[derive(Drop)]
+struct Posting {
+    weights: PlainMap<SumMax<u64>>,
+}
+
+impl Model for Posting {
+    ghost use Rattle.std.specs.Prelude.{List, ℕ};
+
+    ghost Value = { List (ℕ × ℕ) };
+
+    ghost view = { λ p. p.weights.entries };
+}
+
+impl Share for Posting {
+    ghost never_refuses = { ⊥ };
+
+    fn share(&self, alloc: Global) -> Result<Posting, NoMemory> {
+        let weights = self.weights.share(alloc)?;
+        Ok(Posting { weights })
+    }
+}
+
+/// The first posting that is not empty. A value of 0 has none; another has one of this weight.
+#[derive(Drop)]
+struct FirstPosting;
+
+impl Augment for FirstPosting {
+    type Key = u64;
+
+    type Val = u64;
+
+    type Aug = Posting;
+
+    ghost use Rattle.map_tests.specs.Firsts.{posting_of};
+
+    ghost Fits = { λ _. Unit {0} };
+
+    ghost base_of = { posting_of };
+
+    ghost unit_of = { [] };
+
+    ghost combined = { first_filled };
+
+    ghost never_refuses = { ⊥ };
+
+    ghost base_fits = { λ _ _. tt };
+
+    ghost monoid = { first_monoid };
+
+    ghost keys_never_refuse = { λ refuses. absurd refuses };
+
+    ghost values_never_refuse = { λ refuses. absurd refuses };
+
+    ghost augs_never_refuse = { λ refuses. absurd refuses };
+
+    fn base(key: &u64, val: &u64, alloc: Global) -> Result<Posting, NoMemory> {
+        let weights = if *val == 0 {
+            MapOver::empty()
+        } else {
+            MapOver::single(alloc, *key, *val)?
+        };
+        Ok(Posting { weights })
+    }
+
+    fn unit() -> Posting {
+        Posting {
+            weights: MapOver::empty(),
+        }
+    }
+
+    fn combine<C: Ledger>(
+        a: &Posting,
+        b: &Posting,
+        alloc: Global,
+        steps: &mut Steps<C>,
+    ) -> Result<Posting, NoMemory> {
+        steps.tick();
+        if a.weights.size() == 0 {
+            b.share(alloc)
+        } else {
+            a.share(alloc)
+        }
+    }
+}
+
+/// The first weight of the entries from 2 on.
+fn first_weight_in<C: Ledger>(
+    alloc: Global,
+    steps: &mut Steps<C>,
+) -> Result<Option<(u64, u64)>, NoMemory> {
+    let mut map: PlainMap<FirstPosting> = MapOver::empty();
+    for (key, val) in [(1, 7), (2, 0), (3, 30), (4, 40)] {
+        map = map.put(alloc, key, val, steps)?;
+    }
+    let first = map.aug_right(alloc, &2, steps)?;
+    first.weights.select(alloc, 0)
+}
+
+fn first_weight_counted<C: Ledger>(
+    alloc: Global,
+    blank: Blank,
+) -> Result<Option<(u64, u64)>, NoMemory>
+    requires name { blank.name ≡ C.name }
+    requires parts { blank.parts ≡ C.parts }
+    requires some { 0 < blank.parts }
+{
+    let mut steps = Steps::<C>::start(blank);
+    first_weight_in::<C>(alloc, &mut steps)
+}
+
+fn first_weight(alloc: Global) -> Result<Option<(u64, u64)>, NoMemory> {
+    first_weight_counted::<Brand>(alloc, Blank::new(1))
+}
+
+#[test]
+fn a_map_as_augmented_value(rt: HostRuntime) -> Result<(), Fail> {
+    assert_eq!(rt; first_weight(rt.alloc())?, Some((3, 30)));
+    Ok(())
+}

@@ -1,4 +1,0 @@
-use Rattle.map_uses.proofs.tests.counting.evens.Given as goal
-
-abbrev pub invariant-loop-half : goal.invariant-loop-half
-invariant-loop-half g l = Unit {0}

@@ -1,4 +1,0 @@
-use Rattle.map_uses.proofs.tests.counting.within.Given as goal
-
-abbrev pub ghosts-within_counted : goal.ghosts-within_counted
-ghosts-within_counted g a = record { name = a.blank.name; parts = a.blank.parts }

@@ -1,4 +1,0 @@
-use Rattle.map_uses.proofs.tests.cursors.thirds.Given as goal
-
-abbrev pub invariant-loop-at : goal.invariant-loop-at
-invariant-loop-at l = Unit {0}

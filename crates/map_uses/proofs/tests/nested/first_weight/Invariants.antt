@@ -1,4 +1,0 @@
-use Rattle.map_uses.proofs.tests.nested.first_weight.Given as goal
-
-abbrev pub ghosts-first_weight_counted : goal.ghosts-first_weight_counted
-ghosts-first_weight_counted a = record { name = a.blank.name; parts = a.blank.parts }

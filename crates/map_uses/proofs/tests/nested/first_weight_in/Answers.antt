@@ -1,4 +1,0 @@
-use Rattle.map_uses.proofs.tests.nested.first_weight_in.Goals as goal
-
-pub loop-key-preserved : goal.loop-key-preserved
-loop-key-preserved g c = tt

@@ -1,4 +1,0 @@
-use Rattle.map_uses.proofs.tests.nested.first_weight_in.Given as goal
-
-abbrev pub invariant-loop-key : goal.invariant-loop-key
-invariant-loop-key g l = Unit {0}

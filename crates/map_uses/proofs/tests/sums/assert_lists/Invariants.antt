@@ -1,4 +1,0 @@
-use Rattle.map_uses.proofs.tests.sums.assert_lists.Given as goal
-
-abbrev pub invariant-loop-list : goal.invariant-loop-list
-invariant-loop-list g l = Unit {0}

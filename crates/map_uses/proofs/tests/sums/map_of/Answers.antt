@@ -1,4 +1,0 @@
-use Rattle.map_uses.proofs.tests.sums.map_of.Goals as goal
-
-pub loop-entry-preserved : goal.loop-entry-preserved
-loop-entry-preserved g c = tt

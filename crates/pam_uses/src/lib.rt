@@ -1,5 +1,0 @@
-//! The program in threads that overlap.
-#![tactic(auto)]
-
-#[cfg(test)]
-mod tests;

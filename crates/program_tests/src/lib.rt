@@ -1,0 +1,13 @@
+//! Tests of the program: its edges, its records, the replies of its tools, and whole runs.
+#![tactic(auto)]
+
+#[cfg(test)]
+mod edges;
+#[cfg(test)]
+mod many_points;
+#[cfg(test)]
+mod programs;
+#[cfg(test)]
+mod records;
+#[cfg(test)]
+mod samples;

@@ -1,7 +1,0 @@
-use Rattle.std.proofs.Common.{◌≡◌, take}
-use Rattle.versions.specs.History.{after}
-use Rattle.version_root.specs.Sums.{sum_up}
-use Rattle.version_root.proofs.tests.guarded.GuardedState.prepare.Given as goal
-
-abbrev pub invariant-loop-batch : goal.invariant-loop-batch
-invariant-loop-batch g l = l.total ≡ after sum_up l.self (take l.batch-index l.batches)
