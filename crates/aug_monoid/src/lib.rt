@@ -4,6 +4,7 @@
 mod augment;
 mod key;
 mod leaf;
+mod leaf_mut;
 mod max_right;
 mod no_memory;
 mod nothing;
@@ -20,6 +21,7 @@ mod totals;
 pub use augment::{Augment, SyncAugment};
 pub use key::Key;
 pub use leaf::{Leaf, Seek, Walk};
+pub use leaf_mut::LeafMut;
 pub use max_right::MaxRight;
 pub use no_memory::NoMemory;
 pub use nothing::Nothing;
@@ -32,6 +34,3 @@ pub use steps::Steps;
 pub use sum_max::SumMax;
 pub use test::{AugTest, Test};
 pub use totals::Totals;
-
-#[cfg(test)]
-mod tests;

@@ -5,7 +5,7 @@ ghost use Rattle.diff_leaf.specs.Code.{code};
 use crate::build::{concat, cut, encode, splice, without};
 use crate::gaps::{Gaps, entry_at, first_place, get_entry, seek_key};
 use crate::value_code::ValueCode;
-use aug_monoid::{Leaf, NoMemory, Seek, Steps, Walk};
+use aug_monoid::{Leaf, LeafMut, NoMemory, Seek, Steps, Walk};
 use std::alloc::Global;
 use std::marker::{Model, PhantomData};
 use std::sync::ledger::Ledger;
@@ -135,5 +135,23 @@ impl<V: ValueCode> Leaf<u64, V> for DiffLeaf<V> {
             gaps,
             values: PhantomData,
         })
+    }
+}
+
+/// Each change makes the bytes anew, in one copy.
+impl<V: ValueCode> LeafMut<u64, V> for DiffLeaf<V> {
+    fn set_at(&mut self, alloc: Global, at: u64, key: u64, val: V) -> Result<(), NoMemory> {
+        *self = self.splice(alloc, at, at + 1, key, val)?;
+        Ok(())
+    }
+
+    fn insert_at(&mut self, alloc: Global, at: u64, key: u64, val: V) -> Result<(), NoMemory> {
+        *self = self.splice(alloc, at, at, key, val)?;
+        Ok(())
+    }
+
+    fn remove_at(&mut self, alloc: Global, at: u64) -> Result<(), NoMemory> {
+        *self = self.without(alloc, at)?;
+        Ok(())
     }
 }

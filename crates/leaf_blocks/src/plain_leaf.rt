@@ -3,7 +3,7 @@ ghost use Rattle.std.specs.Prelude.{◌≤◌, length};
 
 use crate::copying::{push_shares, share_entry, shares_of};
 use crate::seeking::seek_in;
-use aug_monoid::{Key, Leaf, NoMemory, Seek, Share, Steps, Walk};
+use aug_monoid::{Key, Leaf, LeafMut, NoMemory, Seek, Share, Steps, Walk};
 use std::alloc::Global;
 use std::marker::Model;
 use std::sync::ledger::Ledger;
@@ -128,5 +128,27 @@ impl<K: Key, V: Share> Leaf<K, V> for PlainLeaf<K, V> {
         push_shares(alloc, &mut entries, front)?;
         push_shares(alloc, &mut entries, back)?;
         Ok(PlainLeaf { entries })
+    }
+}
+
+impl<K: Key, V: Share> LeafMut<K, V> for PlainLeaf<K, V> {
+    fn set_at(&mut self, _alloc: Global, at: u64, key: K, val: V) -> Result<(), NoMemory> {
+        self.entries[at as usize] = (key, val);
+        Ok(())
+    }
+
+    // A full vector grows by a quarter, since a block has twice its least size at most.
+    fn insert_at(&mut self, _alloc: Global, at: u64, key: K, val: V) -> Result<(), NoMemory> {
+        let count = self.entries.len();
+        if count == self.entries.capacity() {
+            self.entries.reserve_exact(count / 4 + 1)?;
+        }
+        self.entries.insert(at as usize, (key, val))?;
+        Ok(())
+    }
+
+    fn remove_at(&mut self, _alloc: Global, at: u64) -> Result<(), NoMemory> {
+        self.entries.remove(at as usize);
+        Ok(())
     }
 }

@@ -1,4 +1,0 @@
-use Rattle.diff_leaf.proofs.tests.walked.Given as goal
-
-abbrev pub invariant-loop : goal.invariant-loop
-invariant-loop g l = g.L.Leaf.fits_walk l.leaf l.walk
