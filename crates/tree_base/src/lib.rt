@@ -3,7 +3,7 @@
 //! A tree of at most `2 * B` entries is one block, one of at most `4 * B` entries a node over two blocks of equal size, and a
 //! larger one a node over two balanced trees, neither of which has more than three times the weight of the other. Every node
 //! and block keeps the fold of its entries, so a fold of a whole tree takes no time. Nodes and blocks have several owners,
-//! and none is ever changed.
+//! and one that has two is never changed.
 #![tactic(auto)]
 
 mod build;
@@ -14,6 +14,7 @@ mod listing;
 mod look;
 mod tree;
 
+pub use build::{MOST_ENTRIES, fold_leaf};
 pub use cut::{Around, cut_around};
 pub use look::{Look, LookOver};
-pub use tree::{BlockSize, Tree, TreeOver, Width};
+pub use tree::{Block, BlockSize, Node, Top, Tree, TreeOver, Width};

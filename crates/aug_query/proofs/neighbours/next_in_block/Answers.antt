@@ -8,7 +8,7 @@ use Rattle.aug_query.proofs.neighbours.next_in_block.Goals as goal
 pub overflow_add-place : goal.overflow_add-place
 overflow_add-place g c =
     let found = rank_found g.met.K.Ord.total (g.L.Leaf.entries c.args.leaf.now) c.args.key.now c.requires (c.seek-place.ensures.hit.0 c.if-place.true) in
-    omega (arith, found, c.seek-place.ensures.at, c.len-number.ensures)
+    omega (arith, found, c.seek-place.ensures.at, c.len-number.ensures.value)
 
 pub returns-then-place-clause-value : goal.returns-then-place-clause-value
 returns-then-place-clause-value g c =

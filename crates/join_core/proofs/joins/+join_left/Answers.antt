@@ -1,3 +1,4 @@
+use Rattle.std.proofs.lemmas.Grind.{common_steps}
 use Rattle.std.proofs.Common.{rules, ◌+◌, ◌<◌, ◌≤◌, ◌*◌, ◌∷◌, ◌++◌, length, subst, arith}
 use Rattle.std.proofs.lemmas.Bool.{iff_false}
 use Rattle.map_model.specs.Entries.{IsIncreasing}
@@ -40,3 +41,54 @@ pub returns-clause-entries : goal.returns-clause-entries
 returns-clause-entries g t c =
     rw (c.in-Node.ensures.top.entries_are, regroup c.args.left.tree.now.entries (c.args.key, c.args.val) c.in-Node.near.now.entries (c.in-Node.outer_key.now, c.in-Node.outer_val.now) c.in-Node.outer.now.entries)
     (rw (c.in_ok-near.ensures.entries, c.in_ok-outer_key.ensures.value, c.in_ok-outer_val.ensures.value) at c.repair_left.ensures.entries)
+
+pub link-requires-clause-balanced : goal.link-requires-clause-balanced
+link-requires-clause-balanced g t c = grind (arith, common_steps)
+
+pub unreachable-requires : goal.unreachable-requires
+unreachable-requires g t c = grind (arith, common_steps)
+
+pub returns-in_err-near-clause-entries : goal.returns-in_err-near-clause-entries
+returns-in_err-near-clause-entries g t c = grind (arith, common_steps)
+
+pub returns-in_err-near-clause-linked : goal.returns-in_err-near-clause-linked
+returns-in_err-near-clause-linked g t c = grind (arith, common_steps)
+
+pub returns-in_err-near-clause-one_level : goal.returns-in_err-near-clause-one_level
+returns-in_err-near-clause-one_level g t c = grind (arith, common_steps)
+
+pub returns-in_err-near-clause-two_levels : goal.returns-in_err-near-clause-two_levels
+returns-in_err-near-clause-two_levels g t c = grind (arith, common_steps)
+
+pub returns-in_err-outer_key-clause-entries : goal.returns-in_err-outer_key-clause-entries
+returns-in_err-outer_key-clause-entries g t c = grind (arith, common_steps)
+
+pub returns-in_err-outer_key-clause-linked : goal.returns-in_err-outer_key-clause-linked
+returns-in_err-outer_key-clause-linked g t c = grind (arith, common_steps)
+
+pub returns-in_err-outer_key-clause-one_level : goal.returns-in_err-outer_key-clause-one_level
+returns-in_err-outer_key-clause-one_level g t c = grind (arith, common_steps)
+
+pub returns-in_err-outer_key-clause-two_levels : goal.returns-in_err-outer_key-clause-two_levels
+returns-in_err-outer_key-clause-two_levels g t c = grind (arith, common_steps)
+
+pub returns-in_err-outer_val-clause-entries : goal.returns-in_err-outer_val-clause-entries
+returns-in_err-outer_val-clause-entries g t c = grind (arith, common_steps)
+
+pub returns-in_err-outer_val-clause-linked : goal.returns-in_err-outer_val-clause-linked
+returns-in_err-outer_val-clause-linked g t c = grind (arith, common_steps)
+
+pub returns-in_err-outer_val-clause-one_level : goal.returns-in_err-outer_val-clause-one_level
+returns-in_err-outer_val-clause-one_level g t c = grind (arith, common_steps)
+
+pub returns-in_err-outer_val-clause-two_levels : goal.returns-in_err-outer_val-clause-two_levels
+returns-in_err-outer_val-clause-two_levels g t c = grind (arith, common_steps)
+
+pub returns-clause-linked : goal.returns-clause-linked
+returns-clause-linked g t c = grind (arith, common_steps)
+
+pub returns-clause-one_level : goal.returns-clause-one_level
+returns-clause-one_level g t c = grind (arith, common_steps)
+
+pub returns-clause-two_levels : goal.returns-clause-two_levels
+returns-clause-two_levels g t c = grind (arith, common_steps)

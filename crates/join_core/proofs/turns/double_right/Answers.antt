@@ -1,4 +1,5 @@
-use Rattle.std.proofs.Common.{subst}
+use Rattle.std.proofs.lemmas.Grind.{common_steps}
+use Rattle.std.proofs.Common.{subst, arith}
 use Rattle.map_model.specs.Entries.{IsIncreasing}
 use Rattle.map_model.proofs.Keys.{IsIncreasing-front, around}
 use Rattle.map_model.proofs.Cuts.{weight-around}
@@ -26,3 +27,12 @@ link-requires-3-clause-balanced g c = λ _.
     let front = weight-around _ _ _ _ c.in_ok-front.ensures.entries in
     let back = weight-around _ _ _ _ c.in_ok-back.ensures.entries in
     rw (front, back) (double_balances _ _ _ _ (rw inner at c.requires.repairable) c.in-Node.ensures.top.balanced (rw inner at c.requires.unbalanced) (rw inner at c.requires.not_single))
+
+pub link-requires-clause-balanced : goal.link-requires-clause-balanced
+link-requires-clause-balanced g c = grind (arith, common_steps)
+
+pub link-requires-2-clause-balanced : goal.link-requires-2-clause-balanced
+link-requires-2-clause-balanced g c = grind (arith, common_steps)
+
+pub returns-clause-entries : goal.returns-clause-entries
+returns-clause-entries g c = grind (arith, common_steps)

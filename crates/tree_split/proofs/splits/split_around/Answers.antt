@@ -1,4 +1,4 @@
-use Rattle.std.proofs.Common.{refl, sym, ◌∙◌}
+use Rattle.std.proofs.Common.{sym, ◌∙◌}
 use Rattle.map_model.proofs.Splits.{IsIncreasing-below, IsIncreasing-above}
 use Rattle.map_model.proofs.Cuts.{cut_found, place_found}
 use Rattle.tree_split.proofs.splits.split_around.Goals as goal
@@ -36,7 +36,3 @@ returns-clause-above g c =
     let entries = g.L.Leaf.entries c.args.leaf.now in
     let parts = cut_found g.met.A.Key.Ord.total g.met.A.Key.Key.exact entries c.args.key.now c.requires.increasing _ _ _ c.requires.hit c.in_ok-around.ensures.whole (c.in_ok-around.ensures.front_length ∙ c.requires.place) in
     c.in_ok-higher.ensures.entries ∙ parts.1
-
-pub same-lower : goal.same-lower
-same-lower g c =
-    refl

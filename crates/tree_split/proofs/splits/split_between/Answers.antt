@@ -1,4 +1,4 @@
-use Rattle.std.proofs.Common.{refl, ap, drop, take, ◌∙◌}
+use Rattle.std.proofs.Common.{ap, drop, take, ◌∙◌}
 use Rattle.map_model.proofs.Splits.{IsIncreasing-below, IsIncreasing-above}
 use Rattle.map_model.proofs.Cuts.{cut_missed, place_any}
 use Rattle.tree_split.proofs.splits.split_between.Goals as goal
@@ -29,7 +29,3 @@ returns-clause-above g c =
     let entries = g.L.Leaf.entries c.args.leaf.now in
     let parts = cut_missed g.met.A.Key.Ord.total g.met.A.Key.Key.exact entries c.args.key.now c.requires.increasing c.requires.missed in
     c.in_ok-higher.ensures.entries ∙ c.in_ok-front.ensures.back ∙ ap (λ at. drop at entries) c.requires.place ∙ parts.1
-
-pub same-lower : goal.same-lower
-same-lower g c =
-    refl
