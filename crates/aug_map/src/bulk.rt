@@ -32,7 +32,7 @@ impl<A: SyncAugment, L: Leaf<A::Key, A::Val> + Send + Sync, S: BlockSize + Send 
         requires block_size { IsBlockSize S.SIZE }
         ensures { IfOk result (λ map. map.entries ≡ build A.Key.cmp pairs.now) }
     {
-        let tree = bulk_ops::build(rt, alloc, gate, cut, pairs)?;
+        let tree = batch_ops::build(rt, alloc, gate, cut, pairs)?;
         Ok(MapOver { tree })
     }
 
@@ -95,7 +95,7 @@ impl<A: SyncAugment, L: Leaf<A::Key, A::Val> + Send + Sync, S: BlockSize + Send 
     ) -> Result<MapOver<A, L, S>, NoMemory>
         ensures { IfOk result (λ map. map.entries ≡ after A.Key.cmp self.now.entries (puts pairs.now)) }
     {
-        let tree = bulk_ops::multi_put(rt, alloc, gate, cut, &self.tree, pairs)?;
+        let tree = batch_ops::multi_put(rt, alloc, gate, cut, &self.tree, pairs)?;
         Ok(MapOver { tree })
     }
 
@@ -110,7 +110,7 @@ impl<A: SyncAugment, L: Leaf<A::Key, A::Val> + Send + Sync, S: BlockSize + Send 
     ) -> Result<MapOver<A, L, S>, NoMemory>
         ensures { IfOk result (λ map. map.entries ≡ after A.Key.cmp self.now.entries (dels keys.now)) }
     {
-        let tree = bulk_ops::multi_del(rt, alloc, gate, cut, &self.tree, keys)?;
+        let tree = batch_ops::multi_del(rt, alloc, gate, cut, &self.tree, keys)?;
         Ok(MapOver { tree })
     }
 

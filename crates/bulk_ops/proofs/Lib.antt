@@ -1,7 +1,5 @@
 pub mod Combinations
-pub mod Removals
 pub mod Filtered
-pub mod Batches
 pub mod Planted
 pub mod Slices
 pub mod NodeSides

@@ -5,10 +5,8 @@
 #![tactic(auto)]
 
 mod block;
-mod building;
 mod combination;
 mod combining;
-mod deleting;
 mod differing;
 mod exchanged;
 mod few;
@@ -16,19 +14,16 @@ mod filtering;
 mod meeting;
 mod middle;
 mod one;
-mod putting;
+mod planting;
 mod reducing;
 mod slicing;
 mod small;
-mod sorting;
 mod uncounted;
 mod uniting;
 
-pub use building::build;
-pub use deleting::multi_del;
 pub use differing::{difference, subtract};
 pub use filtering::filter;
 pub use meeting::intersect;
-pub use putting::multi_put;
+pub use planting::plant;
 pub use reducing::map_reduce;
 pub use uniting::{merge, union};

@@ -3,17 +3,20 @@
 //! the operation took, without making its input.
 #![tactic(auto)]
 
+mod asking;
 mod checksum;
+mod combining;
+mod making;
 mod numbers;
-mod points;
-mod queries;
-mod sets;
 mod timed;
 
 use anyhow::{Context, Result, bail};
+use asking::Question;
 use aug_map::{CodedMap, PlainMap};
 use aug_monoid::SumMax;
+use combining::{Combined, Whole, time_one, time_two};
 use fork_join::Cut;
+use making::Making;
 use std::alloc::Global;
 use std::env;
 use std::marker::Sync;
@@ -45,22 +48,22 @@ fn run<R: Threads + Clock + Sync>(
     cut: Cut,
 ) -> Result<Timed> {
     match name {
-        "put" => points::puts(rt, alloc, size, seed),
-        "get" => points::gets(rt, alloc, size, seed),
-        "build" => sets::build(rt, alloc, size, seed, cut),
-        "union" => sets::union(rt, alloc, size, size / 2, seed, cut),
-        "union_small" => sets::union(rt, alloc, size, size / 2000, seed, cut),
-        "intersect" => sets::intersect(rt, alloc, size, seed, cut),
-        "difference" => sets::difference(rt, alloc, size, seed, cut),
-        "filter" => sets::filter(rt, alloc, size, seed, cut),
-        "map_reduce" => sets::map_reduce(rt, alloc, size, seed, cut),
-        "coded" => sets::coded(rt, alloc, size, seed, cut),
-        "coded_rising" => sets::coded_rising(rt, alloc, size, cut),
-        "range_fold" => queries::range_folds(rt, alloc, size, seed, cut),
-        "rank" => queries::ranks(rt, alloc, size, seed, cut),
-        "select" => queries::selects(rt, alloc, size, seed, cut),
-        "neighbours" => queries::neighbours(rt, alloc, size, seed, cut),
-        "walk" => queries::walk(rt, alloc, size, seed, cut),
+        "put" => making::time(rt, alloc, Making::Puts, size, seed, cut),
+        "build" => making::time(rt, alloc, Making::Build, size, seed, cut),
+        "coded" => making::time(rt, alloc, Making::Coded, size, seed, cut),
+        "coded_rising" => making::time(rt, alloc, Making::CodedRising, size, seed, cut),
+        "union" => time_two(rt, alloc, Combined::Union, size, size / 2, seed, cut),
+        "union_small" => time_two(rt, alloc, Combined::Union, size, size / 2000, seed, cut),
+        "intersect" => time_two(rt, alloc, Combined::Intersection, size, size / 2, seed, cut),
+        "difference" => time_two(rt, alloc, Combined::Difference, size, size / 2, seed, cut),
+        "filter" => time_one(rt, alloc, Whole::Filter, size, seed, cut),
+        "map_reduce" => time_one(rt, alloc, Whole::MapReduce, size, seed, cut),
+        "walk" => time_one(rt, alloc, Whole::Walk, size, seed, cut),
+        "get" => asking::time(rt, alloc, Question::Get, size, seed, cut),
+        "range_fold" => asking::time(rt, alloc, Question::RangeFold, size, seed, cut),
+        "rank" => asking::time(rt, alloc, Question::Rank, size, seed, cut),
+        "select" => asking::time(rt, alloc, Question::Select, size, seed, cut),
+        "neighbours" => asking::time(rt, alloc, Question::Neighbours, size, seed, cut),
         _ => bail!("no such operation"),
     }
 }

@@ -35,11 +35,11 @@ pub(crate) fn checksum_of(alloc: Global, map: &Totaled) -> Result<u64, NoMemory>
     Ok(checksum.sum())
 }
 
-/// The checksum of a map, and the time that it took to make.
-pub(crate) fn made(alloc: Global, nanoseconds: u128, map: &Totaled) -> Result<Timed> {
-    let checksum = checksum_of(alloc, map)?;
+/// The time since a start, beside the checksum of the map that it took to make.
+pub(crate) fn made(rt: &impl Clock, alloc: Global, start: Instant, map: &Totaled) -> Result<Timed> {
+    let nanoseconds = start.elapsed(rt)?.as_nanos();
     Ok(Timed {
-        checksum,
+        checksum: checksum_of(alloc, map)?,
         nanoseconds,
     })
 }

@@ -1,11 +1,8 @@
-use Rattle.std.proofs.Common.{◌≡◌, ◌++◌, IfOk, refl, sym, subst}
+use Rattle.std.proofs.Common.{◌≡◌, ◌++◌, IfOk, sym, subst}
 use Rattle.std.specs.List.{cons_option}
 use Rattle.bulk_ops.specs.Answers.{IsPutTogether}
 use Rattle.bulk_ops.specs.Combination.{combined_entries}
 use Rattle.bulk_ops.proofs.combining.+combine_alone.Goals as goal
-
-pub same-left : goal.same-left
-same-left g t c = refl
 
 pub join_around-requires : goal.join_around-requires
 join_around-requires g t c =

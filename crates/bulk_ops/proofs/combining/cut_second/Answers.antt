@@ -1,17 +1,8 @@
-use Rattle.std.proofs.Common.{◌≡◌, ◌∷◌, ◌++◌, Some, rules, arith, refl, sym, ap, ap₂, ◌∙◌}
+use Rattle.std.proofs.Common.{◌≡◌, ◌∷◌, ◌++◌, Some, rules, arith, sym, ap, ap₂, ◌∙◌}
 use Rattle.std.specs.Option.{option_map}
 use Rattle.map_model.specs.Entries.{lookup, below, above}
 use Rattle.bulk_ops.proofs.Combinations.{cut_at_second, smaller}
 use Rattle.bulk_ops.proofs.combining.cut_second.Goals as goal
-
-pub same-near : goal.same-near
-same-near g c = refl
-
-pub same-below : goal.same-below
-same-below g c = refl
-
-pub same-above : goal.same-above
-same-above g c = refl
 
 pub returns-in_ok-far-in-Node : goal.returns-in_ok-far-in-Node
 returns-in_ok-far-in-Node g c =

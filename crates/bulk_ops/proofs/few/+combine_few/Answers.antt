@@ -1,13 +1,10 @@
-use Rattle.std.proofs.Common.{rules, ◌≡◌, ◌<◌, length, Some, IfOk, refl, sym, ap, ◌∙◌, subst, arith}
+use Rattle.std.proofs.Common.{rules, ◌≡◌, ◌<◌, length, Some, IfOk, sym, ap, ◌∙◌, subst, arith}
 use Rattle.map_model.specs.Entries.{IsIncreasing, below, above}
 use Rattle.map_model.proofs.Cuts.{length-around}
 use Rattle.map_model.proofs.Splits.{IsIncreasing-below, IsIncreasing-above}
 use Rattle.bulk_ops.specs.Combination.{entry_at}
 use Rattle.bulk_ops.proofs.NodeSides.{node_combined, node_rises}
 use Rattle.bulk_ops.proofs.few.+combine_few.Goals as goal
-
-pub same-front : goal.same-front
-same-front g t c = refl
 
 pub combine_few-requires : goal.combine_few-requires
 combine_few-requires g t c κs within =

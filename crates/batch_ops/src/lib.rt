@@ -1,0 +1,15 @@
+//! Batches of pairs and of keys, in any order: the map that pairs make, and many puts and many removals at once.
+//!
+//! A batch is sorted, for each key its last pair stays, and the rest is an operation on whole maps. Each call takes the
+//! runtime, the allocator, a gate and a cut first, and its answer depends on none of them. The only refusal is want of memory,
+//! which leaves all arguments as they were.
+#![tactic(auto)]
+
+mod building;
+mod deleting;
+mod putting;
+mod sorting;
+
+pub use building::build;
+pub use deleting::multi_del;
+pub use putting::multi_put;

@@ -1,4 +1,0 @@
-use Rattle.pam_bench.proofs.points.all_put.Given as goal
-
-abbrev pub ghosts-put_all : goal.ghosts-put_all
-ghosts-put_all a = record { name = a.blank.name; parts = a.blank.parts }

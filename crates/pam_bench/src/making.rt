@@ -1,0 +1,134 @@
+//! Maps made of pairs.
+ghost use Rattle.std.specs.Prelude.{◌≡◌, ◌<◌};
+
+use crate::numbers::Numbers;
+use crate::timed::{Timed, checksum_of};
+use crate::{Coded, Totaled};
+use anyhow::Result;
+use aug_monoid::{NoMemory, Steps};
+use fork_join::{Cut, FreeGate};
+use std::alloc::Global;
+use std::marker::{Brand, Sync};
+use std::rt::Clock;
+use std::sync::ledger::{Blank, Ledger};
+use std::thread::Threads;
+use std::time::Instant;
+
+/// How a map is made, and of which pairs.
+#[derive(Clone, Copy)]
+pub(crate) enum Making {
+    /// By one put after another.
+    Puts,
+    /// At once.
+    Build,
+    /// In blocks of gaps, of random keys. The harness reads its memory off the process.
+    Coded,
+    /// The same of the keys below a number, with small values.
+    CodedRising,
+}
+
+/// A map in blocks of either kind.
+#[derive(Drop)]
+enum Made {
+    Plain(Totaled),
+    Coded(Coded),
+}
+
+fn put_all<C: Ledger>(
+    alloc: Global,
+    pairs: &[(u64, u64)],
+    blank: Blank,
+) -> Result<Totaled, NoMemory>
+    requires name { blank.name ≡ C.name }
+    requires parts { blank.parts ≡ C.parts }
+    requires some { 0 < blank.parts }
+{
+    let mut steps = Steps::<C>::start(blank);
+    let mut map = Totaled::empty();
+    for (key, val) in pairs {
+        map = map.put(alloc, *key, *val, &mut steps)?;
+    }
+    Ok(map)
+}
+
+/// The map of pairs that are put one after another.
+pub(crate) fn all_put(alloc: Global, pairs: &[(u64, u64)]) -> Result<Totaled, NoMemory> {
+    put_all::<Brand>(alloc, pairs, Blank::new(1))
+}
+
+/// The map of pairs that is made at once.
+pub(crate) fn built<R: Threads + Sync>(
+    rt: &R,
+    alloc: Global,
+    cut: Cut,
+    pairs: &[(u64, u64)],
+) -> Result<Totaled, NoMemory> {
+    Totaled::build(rt, alloc, &FreeGate, cut, pairs)
+}
+
+fn make<R: Threads + Sync>(
+    rt: &R,
+    alloc: Global,
+    making: Making,
+    cut: Cut,
+    pairs: &[(u64, u64)],
+) -> Result<Made, NoMemory> {
+    match making {
+        Making::Puts => Ok(Made::Plain(all_put(alloc, pairs)?)),
+        Making::Build => Ok(Made::Plain(built(rt, alloc, cut, pairs)?)),
+        Making::Coded | Making::CodedRising => {
+            Ok(Made::Coded(Coded::build(rt, alloc, &FreeGate, cut, pairs)?))
+        }
+    }
+}
+
+fn pairs_for(
+    alloc: Global,
+    making: Making,
+    size: u64,
+    seed: u64,
+) -> Result<Vec<(u64, u64)>, NoMemory> {
+    let mut numbers = Numbers::new(seed);
+    match making {
+        Making::Puts | Making::Build => numbers.pairs(alloc, size, size.saturating_mul(2)),
+        Making::Coded => numbers.wide_pairs(alloc, size),
+        Making::CodedRising => rising_pairs(alloc, size),
+    }
+}
+
+fn rising_pairs(alloc: Global, count: u64) -> Result<Vec<(u64, u64)>, NoMemory> {
+    let mut pairs = Vec::new(alloc);
+    for key in 0..count {
+        pairs.push((key, key % 100))?;
+    }
+    Ok(pairs)
+}
+
+/// What is told of a map: its entries where it was built, and else their number.
+fn told(alloc: Global, making: Making, made: &Made) -> Result<u64, NoMemory> {
+    match made {
+        Made::Plain(map) => match making {
+            Making::Build => checksum_of(alloc, map),
+            _ => Ok(map.size()),
+        },
+        Made::Coded(map) => Ok(map.size()),
+    }
+}
+
+pub(crate) fn time<R: Threads + Clock + Sync>(
+    rt: &R,
+    alloc: Global,
+    making: Making,
+    size: u64,
+    seed: u64,
+    cut: Cut,
+) -> Result<Timed> {
+    let pairs = pairs_for(alloc, making, size, seed)?;
+    let start = Instant::now(rt)?;
+    let made = make(rt, alloc, making, cut, &pairs)?;
+    let nanoseconds = start.elapsed(rt)?.as_nanos();
+    Ok(Timed {
+        checksum: told(alloc, making, &made)?,
+        nanoseconds,
+    })
+}
