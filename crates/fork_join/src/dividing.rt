@@ -1,4 +1,4 @@
-//! The recursion.
+//! The recursion, forked and on one thread.
 ghost use Rattle.std.specs.Prelude.{IfOk};
 ghost use Rattle.std.specs.Thread.{IsSend, IsSync};
 
@@ -8,6 +8,7 @@ use crate::gate::Gate;
 use crate::work::{Divide, Opened};
 use aug_monoid::NoMemory;
 use std::alloc::Global;
+use std::marker::{Send, Sync};
 use std::thread::Threads;
 
 /// The answer for a part, by halves of halves, forked where the cut allows it.
@@ -19,7 +20,7 @@ pub fn divide<
     P: Send + Drop,
     M: Send + Drop,
     O: Send + Drop,
-    D: Divide<P, M, O>,
+    D: Divide<P, M, O> + Send + Sync,
 >(rt: &R, alloc: Global, gate: &G, cut: Cut, work: &D, part: P) -> Result<O, NoMemory>
     requires { D.fits work.now part }
     ensures { IfOk result (D.answers work.now part) }
@@ -38,6 +39,26 @@ pub fn divide<
             { divide(rt, alloc, gate, cut, work, back) };
             let (left, right) = fork2(rt, gate, cut, size, near, far);
             work.close(alloc, left?, middle, right?)
+        }
+    }
+}
+
+/// The answer for a part on one thread, by halves of halves: those that `divide` opens and closes. For a part of extent n the
+/// recursion is O(n) deep.
+pub fn divide_alone<P: Drop, M: Drop, O: Drop, D: Divide<P, M, O>>(
+    alloc: Global,
+    work: &D,
+    part: P,
+) -> Result<O, NoMemory>
+    requires { D.fits work.now part }
+    ensures { IfOk result (D.answers work.now part) }
+{
+    match work.open(alloc, part)? {
+        Opened::Done(out) => Ok(out),
+        Opened::Split(front, middle, back) => {
+            let left = divide_alone(alloc, work, front)?;
+            let right = divide_alone(alloc, work, back)?;
+            work.close(alloc, left, middle, right)
         }
     }
 }

@@ -8,7 +8,7 @@ mod gate;
 mod work;
 
 pub use cut::Cut;
-pub use dividing::divide;
+pub use dividing::{divide, divide_alone};
 pub use fork::fork2;
 pub use gate::{FreeGate, Gate};
 pub use work::{Divide, Opened};

@@ -4,7 +4,6 @@ ghost use Rattle.fork_join.specs.Openings.{IsOpened, AreHalves};
 
 use aug_monoid::NoMemory;
 use std::alloc::Global;
-use std::marker::{Send, Sync};
 
 /// A part that is done, or its two halves and what is kept between them.
 #[derive(Drop)]
@@ -13,8 +12,8 @@ pub enum Opened<P, M, O> {
     Split(P, M, P),
 }
 
-/// Work whose parts are split in two until they are small.
-pub trait Divide<P, M, O>: Send + Sync + Drop {
+/// Work whose parts are split in two until they are small. Where it is to fork it crosses threads besides.
+pub trait Divide<P, M, O>: Drop {
     /// That this is a part of such work.
     ghost fits: { Self → P → Type 0 };
 

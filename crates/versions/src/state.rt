@@ -25,7 +25,7 @@ pub trait State: Share {
     type Out: Send + Drop;
 
     /// How a part is divided and done.
-    type Work: Divide<Self::Part, Self::Middle, Self::Out>;
+    type Work: Divide<Self::Part, Self::Middle, Self::Out> + Send + Sync;
 
     /// The state after one operation.
     ghost step: { Self → Self.Op → Self };
