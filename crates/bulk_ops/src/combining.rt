@@ -14,7 +14,7 @@ use crate::middle::join_around;
 use crate::small::{FEW_BLOCKS, SLICED_BLOCKS, entries_of, kept_or_none};
 use crate::uncounted::split_at;
 use aug_monoid::{Augment, Key, Leaf, NoMemory, Share, SyncAugment};
-use fork_join::{Cut, Divide, Gate, Opened, divide};
+use fork_join::{Cut, Divide, Gate, Opened, divide, divide_alone};
 use join_core::Part;
 use std::alloc::Global;
 use std::marker::{Send, Sync};
@@ -27,14 +27,11 @@ struct Combining<'a, W> {
     how: &'a W,
 }
 
-impl<
-    'a,
-    A: Augment,
-    L: Leaf<A::Key, A::Val>,
-    S: BlockSize,
-    W: Combination<A::Key, A::Val> + Send + Sync,
-> Divide<(TreeOver<A, L, S>, TreeOver<A, L, S>), Option<(A::Key, A::Val)>, TreeOver<A, L, S>>
-    for Combining<'a, W> {
+impl<'a, A: Augment, L: Leaf<A::Key, A::Val>, S: BlockSize, W: Combination<A::Key, A::Val>> Divide<
+    (TreeOver<A, L, S>, TreeOver<A, L, S>),
+    Option<(A::Key, A::Val)>,
+    TreeOver<A, L, S>,
+> for Combining<'a, W> {
     ghost fits = { λ _ _. Unit {0} };
 
     ghost answers = { λ work. IsAnswer (combined_entries (W.combined work.how.now)) };
@@ -233,40 +230,6 @@ fn cut_second<A: Augment, L: Leaf<A::Key, A::Val>, S: BlockSize, W: Combination<
     }
 }
 
-/// Two trees that are combined on one thread.
-#[derive(Drop)]
-pub(crate) struct Sides<A: Augment, L: Leaf<A::Key, A::Val>, S: BlockSize> {
-    pub(crate) first: TreeOver<A, L, S>,
-    pub(crate) second: TreeOver<A, L, S>,
-}
-
-/// The combination of two trees on one thread.
-pub(crate) fn combine_alone<
-    A: Augment,
-    L: Leaf<A::Key, A::Val>,
-    S: BlockSize,
-    W: Combination<A::Key, A::Val>,
->(alloc: Global, how: &W, sides: Sides<A, L, S>) -> Result<TreeOver<A, L, S>, NoMemory>
-    ensures { IfOk result (IsAnswer (combined_entries (W.combined how.now)) (sides.first, sides.second)) }
-{
-    match open_sides(alloc, how, sides.first, sides.second)? {
-        Opened::Done(tree) => Ok(tree),
-        Opened::Split(lower, middle, upper) => {
-            let front = Sides {
-                first: lower.0,
-                second: lower.1,
-            };
-            let back = Sides {
-                first: upper.0,
-                second: upper.1,
-            };
-            let left = combine_alone(alloc, how, front)?;
-            let right = combine_alone(alloc, how, back)?;
-            join_around(alloc, left, middle, right)
-        }
-    }
-}
-
 /// The combination of two trees.
 pub(crate) fn combine<
     R: Threads + Sync,
@@ -288,4 +251,22 @@ pub(crate) fn combine<
 {
     let sides = (a.share(alloc)?, b.share(alloc)?);
     divide(rt, alloc, gate, cut, &Combining { how }, sides)
+}
+
+/// The combination of two trees on one thread.
+pub(crate) fn combine_alone<
+    A: Augment,
+    L: Leaf<A::Key, A::Val>,
+    S: BlockSize,
+    W: Combination<A::Key, A::Val>,
+>(
+    alloc: Global,
+    a: &TreeOver<A, L, S>,
+    b: &TreeOver<A, L, S>,
+    how: &W,
+) -> Result<TreeOver<A, L, S>, NoMemory>
+    ensures { IfOk result (λ tree. tree.entries ≡ W.combined how.now a.now.entries b.now.entries) }
+{
+    let sides = (a.share(alloc)?, b.share(alloc)?);
+    divide_alone(alloc, &Combining { how }, sides)
 }

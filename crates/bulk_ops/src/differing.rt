@@ -5,7 +5,7 @@ ghost use Rattle.bulk_ops.specs.Combination.{unless};
 ghost use Rattle.bulk_ops.specs.Laws.{difference_laws};
 
 use crate::combination::Combination;
-use crate::combining::{Sides, combine, combine_alone};
+use crate::combining::{combine, combine_alone};
 use aug_monoid::{Augment, Key, Leaf, NoMemory, Share, SyncAugment};
 use entry_lists::difference_of;
 use fork_join::{Cut, Gate};
@@ -74,17 +74,14 @@ pub fn difference<
     combine(rt, alloc, gate, cut, a, b, &Differing)
 }
 
-/// The difference on one thread, for values that are maps themselves.
-pub fn subtract<A: Augment, L: Leaf<A::Key, A::Val>, S: BlockSize>(
+/// `difference` on one thread, which asks of values nothing about threads. O(m * log(n / m + 1)) for maps of m and n entries, m at
+/// most n. `NoMemory` for want of memory alone.
+pub fn difference_alone<A: Augment, L: Leaf<A::Key, A::Val>, S: BlockSize>(
     alloc: Global,
     a: &TreeOver<A, L, S>,
     b: &TreeOver<A, L, S>,
 ) -> Result<TreeOver<A, L, S>, NoMemory>
     ensures { IfOk result (λ tree. tree.entries ≡ difference_of_entries A.Key.cmp a.now.entries b.now.entries) }
 {
-    let sides = Sides {
-        first: a.share(alloc)?,
-        second: b.share(alloc)?,
-    };
-    combine_alone(alloc, &Differing, sides)
+    combine_alone(alloc, a, b, &Differing)
 }

@@ -8,7 +8,7 @@ use crate::middle::join_around;
 use crate::small::{SLICED_BLOCKS, entries_of, tree_of};
 use aug_monoid::{Augment, Leaf, NoMemory, Share, SyncAugment, Test};
 use entry_lists::filtered_of;
-use fork_join::{Cut, Divide, Gate, Opened, divide};
+use fork_join::{Cut, Divide, Gate, Opened, divide, divide_alone};
 use std::alloc::Global;
 use std::marker::{Send, Sync};
 use std::thread::Threads;
@@ -19,13 +19,11 @@ struct Filtering<'a, T> {
     test: &'a T,
 }
 
-impl<
-    'a,
-    A: Augment,
-    L: Leaf<A::Key, A::Val>,
-    S: BlockSize,
-    T: Test<A::Key, A::Val> + Send + Sync,
-> Divide<&'a TreeOver<A, L, S>, Option<(A::Key, A::Val)>, TreeOver<A, L, S>> for Filtering<'a, T> {
+impl<'a, A: Augment, L: Leaf<A::Key, A::Val>, S: BlockSize, T: Test<A::Key, A::Val>> Divide<
+    &'a TreeOver<A, L, S>,
+    Option<(A::Key, A::Val)>,
+    TreeOver<A, L, S>,
+> for Filtering<'a, T> {
     ghost fits = { λ _ _. Unit {0} };
 
     ghost answers = { λ work. IsAnswer (filtered_entries (T.passes work.test.now)) };
@@ -124,4 +122,16 @@ pub fn filter<
     ensures { IfOk result (λ kept. kept.entries ≡ filtered (λ e. T.passes test.now e.0 e.1) tree.now.entries) }
 {
     divide(rt, alloc, gate, cut, &Filtering { test }, tree)
+}
+
+/// `filter` on one thread, which asks of values and of the test nothing about threads. O(n) for a map of n entries. `NoMemory` for
+/// want of memory alone.
+pub fn filter_alone<A: Augment, L: Leaf<A::Key, A::Val>, S: BlockSize, T: Test<A::Key, A::Val>>(
+    alloc: Global,
+    tree: &TreeOver<A, L, S>,
+    test: &T,
+) -> Result<TreeOver<A, L, S>, NoMemory>
+    ensures { IfOk result (λ kept. kept.entries ≡ filtered (λ e. T.passes test.now e.0 e.1) tree.now.entries) }
+{
+    divide_alone(alloc, &Filtering { test }, tree)
 }

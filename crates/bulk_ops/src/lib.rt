@@ -1,7 +1,8 @@
 //! Operations on whole maps, which fork over the halves of their work.
 //!
-//! Each call takes the runtime, the allocator, a gate and a cut first, and its answer depends on none
-//! of them. The only refusal is want of memory, which leaves all arguments as they were.
+//! Each call takes the runtime, the allocator, a gate and a cut first, and its answer depends on none of them. Its twin, whose
+//! name ends in `_alone`, gives the same answer on one thread, and takes of these the allocator alone. The only refusal is want of
+//! memory, which leaves all arguments as they were.
 #![tactic(auto)]
 
 mod block;
@@ -21,9 +22,9 @@ mod small;
 mod uncounted;
 mod uniting;
 
-pub use differing::{difference, subtract};
-pub use filtering::filter;
-pub use meeting::intersect;
-pub use planting::plant;
-pub use reducing::map_reduce;
-pub use uniting::{merge, union};
+pub use differing::{difference, difference_alone};
+pub use filtering::{filter, filter_alone};
+pub use meeting::{intersect, intersect_alone};
+pub use planting::{plant, plant_alone};
+pub use reducing::{map_reduce, map_reduce_alone};
+pub use uniting::{union, union_alone};

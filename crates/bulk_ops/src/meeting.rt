@@ -5,8 +5,8 @@ ghost use Rattle.map_model.proofs.Intersections.{met};
 ghost use Rattle.bulk_ops.specs.Laws.{intersection_laws};
 
 use crate::combination::Combination;
-use crate::combining::combine;
-use aug_monoid::{Key, Leaf, NoMemory, Resolve, Share, SyncAugment};
+use crate::combining::{combine, combine_alone};
+use aug_monoid::{Augment, Key, Leaf, NoMemory, Resolve, Share, SyncAugment};
 use entry_lists::intersect_of;
 use fork_join::{Cut, Gate};
 use std::alloc::Global;
@@ -76,4 +76,17 @@ pub fn intersect<
     ensures { IfOk result (λ tree. tree.entries ≡ intersection_of_entries A.Key.cmp (H.resolved how.now) a.now.entries b.now.entries) }
 {
     combine(rt, alloc, gate, cut, a, b, &Meeting { how })
+}
+
+/// `intersect` on one thread, which asks of values and of `how` nothing about threads. O(m * log(n / m + 1)) for maps of m and n
+/// entries, m at most n. `NoMemory` for want of memory alone.
+pub fn intersect_alone<A: Augment, L: Leaf<A::Key, A::Val>, S: BlockSize, H: Resolve<A::Val>>(
+    alloc: Global,
+    a: &TreeOver<A, L, S>,
+    b: &TreeOver<A, L, S>,
+    how: &H,
+) -> Result<TreeOver<A, L, S>, NoMemory>
+    ensures { IfOk result (λ tree. tree.entries ≡ intersection_of_entries A.Key.cmp (H.resolved how.now) a.now.entries b.now.entries) }
+{
+    combine_alone(alloc, a, b, &Meeting { how })
 }

@@ -9,7 +9,7 @@ use crate::middle::join_around;
 use crate::small::MOST_ENTRIES;
 use crate::uncounted::planted;
 use aug_monoid::{Augment, Key, Leaf, NoMemory, Share, SyncAugment};
-use fork_join::{Cut, Divide, Gate, Opened, divide};
+use fork_join::{Cut, Divide, Gate, Opened, divide, divide_alone};
 use std::alloc::Global;
 use std::marker::{Send, Sync};
 use std::thread::Threads;
@@ -112,4 +112,19 @@ pub fn plant<
         return Err(NoMemory);
     }
     divide(rt, alloc, gate, cut, &Planting, entries)
+}
+
+/// `plant` on one thread, which asks of values nothing about threads. O(n) for n entries. `NoMemory` for want of memory alone.
+pub fn plant_alone<A: Augment, L: Leaf<A::Key, A::Val>, S: BlockSize>(
+    alloc: Global,
+    entries: &[(A::Key, A::Val)],
+) -> Result<TreeOver<A, L, S>, NoMemory>
+    requires block_size { IsBlockSize S.SIZE }
+    requires increasing { IsIncreasing A.Key.cmp entries.now }
+    ensures { IfOk result (λ tree. tree.entries ≡ entries.now) }
+{
+    if entries.len() >= MOST_ENTRIES {
+        return Err(NoMemory);
+    }
+    divide_alone(alloc, &Planting, entries)
 }

@@ -4,7 +4,7 @@ ghost use Rattle.map_model.specs.Fold.{reduce};
 
 use crate::block::{meet_around, reduce_leaf};
 use aug_monoid::{Augment, Leaf, NoMemory, Reduce, SyncAugment, SyncReduce};
-use fork_join::{Cut, Divide, Gate, Opened, divide};
+use fork_join::{Cut, Divide, Gate, Opened, divide, divide_alone};
 use std::alloc::Global;
 use std::marker::{Send, Sync};
 use std::thread::Threads;
@@ -15,13 +15,11 @@ struct Reducing<'a, M> {
     how: &'a M,
 }
 
-impl<
-    'a,
-    A: Augment,
-    L: Leaf<A::Key, A::Val>,
-    S: BlockSize,
-    M: Reduce<A::Key, A::Val> + Send + Sync,
-> Divide<&'a TreeOver<A, L, S>, (&'a A::Key, &'a A::Val), M::Out> for Reducing<'a, M> {
+impl<'a, A: Augment, L: Leaf<A::Key, A::Val>, S: BlockSize, M: Reduce<A::Key, A::Val>> Divide<
+    &'a TreeOver<A, L, S>,
+    (&'a A::Key, &'a A::Val),
+    M::Out,
+> for Reducing<'a, M> {
     ghost fits = { λ _ _. Unit {0} };
 
     ghost answers = { λ work part out. out ≡ reduce (M.image_of work.how.now) (M.unit_of work.how.now) (M.met work.how.now) part.now.entries };
@@ -85,4 +83,17 @@ pub fn map_reduce<
     ensures { IfOk result (λ out. out ≡ reduce (M.image_of how.now) (M.unit_of how.now) (M.met how.now) tree.now.entries) }
 {
     divide(rt, alloc, gate, cut, &Reducing { how }, tree)
+}
+
+/// `map_reduce` on one thread, which asks of values and of `how` nothing about threads. O(n) for a map of n entries. `NoMemory` for
+/// want of memory alone.
+pub fn map_reduce_alone<
+    A: Augment,
+    L: Leaf<A::Key, A::Val>,
+    S: BlockSize,
+    M: Reduce<A::Key, A::Val>,
+>(alloc: Global, tree: &TreeOver<A, L, S>, how: &M) -> Result<M::Out, NoMemory>
+    ensures { IfOk result (λ out. out ≡ reduce (M.image_of how.now) (M.unit_of how.now) (M.met how.now) tree.now.entries) }
+{
+    divide_alone(alloc, &Reducing { how }, tree)
 }

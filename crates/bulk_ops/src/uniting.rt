@@ -5,7 +5,7 @@ ghost use Rattle.map_model.proofs.Unions.{united};
 ghost use Rattle.bulk_ops.specs.Laws.{union_laws};
 
 use crate::combination::Combination;
-use crate::combining::{Sides, combine, combine_alone};
+use crate::combining::{combine, combine_alone};
 use aug_monoid::{Augment, Key, Leaf, NoMemory, Resolve, Share, SyncAugment};
 use entry_lists::union_of;
 use fork_join::{Cut, Gate};
@@ -84,8 +84,9 @@ pub fn union<
     combine(rt, alloc, gate, cut, a, b, &Uniting { how })
 }
 
-/// The union on one thread, for values that are maps themselves.
-pub fn merge<A: Augment, L: Leaf<A::Key, A::Val>, S: BlockSize, H: Resolve<A::Val>>(
+/// `union` on one thread, which asks of values and of `how` nothing about threads. O(m * log(n / m + 1)) for maps of m and n
+/// entries, m at most n. `NoMemory` for want of memory alone.
+pub fn union_alone<A: Augment, L: Leaf<A::Key, A::Val>, S: BlockSize, H: Resolve<A::Val>>(
     alloc: Global,
     a: &TreeOver<A, L, S>,
     b: &TreeOver<A, L, S>,
@@ -93,9 +94,5 @@ pub fn merge<A: Augment, L: Leaf<A::Key, A::Val>, S: BlockSize, H: Resolve<A::Va
 ) -> Result<TreeOver<A, L, S>, NoMemory>
     ensures { IfOk result (λ tree. tree.entries ≡ union_of_entries A.Key.cmp (H.resolved how.now) a.now.entries b.now.entries) }
 {
-    let sides = Sides {
-        first: a.share(alloc)?,
-        second: b.share(alloc)?,
-    };
-    combine_alone(alloc, &Uniting { how }, sides)
+    combine_alone(alloc, a, b, &Uniting { how })
 }
