@@ -3,9 +3,9 @@ ghost use Rattle.std.specs.Prelude.{◌≡◌, IfOk};
 ghost use Rattle.map_model.specs.Balance.{IsBlockSize};
 ghost use Rattle.map_model.specs.Operations.{build as built};
 
-use crate::sorting::last_of_each_key;
-use aug_monoid::{Leaf, NoMemory, SyncAugment};
-use bulk_ops::plant;
+use crate::sorting::{last_of_each_key, last_of_each_key_alone};
+use aug_monoid::{Augment, Leaf, NoMemory, SyncAugment};
+use bulk_ops::{plant, plant_alone};
 use fork_join::{Cut, Gate};
 use std::alloc::Global;
 use std::marker::{Send, Sync};
@@ -34,4 +34,17 @@ pub fn build<
 {
     let entries = last_of_each_key(rt, alloc, pairs)?;
     plant(rt, alloc, gate, cut, &entries)
+}
+
+/// `build` on one thread, which asks of values nothing about threads. O(n * log n) for n pairs. `NoMemory` for want of memory
+/// alone.
+pub fn build_alone<A: Augment, L: Leaf<A::Key, A::Val>, S: BlockSize>(
+    alloc: Global,
+    pairs: &[(A::Key, A::Val)],
+) -> Result<TreeOver<A, L, S>, NoMemory>
+    requires block_size { IsBlockSize S.SIZE }
+    ensures { IfOk result (λ tree. tree.entries ≡ built A.Key.cmp pairs.now) }
+{
+    let entries = last_of_each_key_alone(alloc, pairs)?;
+    plant_alone(alloc, &entries)
 }

@@ -3,9 +3,9 @@ ghost use Rattle.std.specs.Prelude.{◌≡◌, ◌<◌, IfOk};
 ghost use Rattle.map_model.specs.Operations.{after, dels};
 ghost use Rattle.batch_ops.specs.Found.{found_in};
 
-use crate::sorting::last_of_each_key;
+use crate::sorting::{last_of_each_key, last_of_each_key_alone};
 use aug_monoid::{Augment, Leaf, NoMemory, Share, Steps, SyncAugment};
-use bulk_ops::{difference, plant};
+use bulk_ops::{difference, difference_alone, plant, plant_alone};
 use fork_join::{Cut, Gate};
 use std::alloc::Global;
 use std::marker::{Brand, Send, Sync};
@@ -72,4 +72,21 @@ pub fn multi_del<
     let batch = last_of_each_key(rt, alloc, &found)?;
     let gone = plant(rt, alloc, gate, cut, &batch)?;
     difference(rt, alloc, gate, cut, tree, &gone)
+}
+
+/// `multi_del` on one thread, which asks of values nothing about threads. O(k * log n) for k keys and a map of n entries.
+/// `NoMemory` for want of memory alone.
+pub fn multi_del_alone<A: Augment, L: Leaf<A::Key, A::Val>, S: BlockSize>(
+    alloc: Global,
+    tree: &TreeOver<A, L, S>,
+    keys: &[A::Key],
+) -> Result<TreeOver<A, L, S>, NoMemory>
+    ensures { IfOk result (λ new. new.entries ≡ after A.Key.cmp tree.now.entries (dels keys.now)) }
+{
+    let _least = tree.block_size();
+    let _size = tree.size();
+    let found = entries_at(alloc, tree, keys)?;
+    let batch = last_of_each_key_alone(alloc, &found)?;
+    let gone = plant_alone(alloc, &batch)?;
+    difference_alone(alloc, tree, &gone)
 }

@@ -1,5 +1,6 @@
 //! Batches of pairs, sorted.
 ghost use Rattle.std.specs.Prelude.{◌≡◌, IfOk, OnOk, length, reverse};
+ghost use Rattle.std.specs.List.{dedup};
 ghost use Rattle.std.specs.List.Sorted.{IsSortedByKey, IsStableByKey};
 ghost use Rattle.std.specs.Ordering.{is_eq};
 ghost use Rattle.batch_ops.specs.Batches.{IsBatch};
@@ -78,6 +79,27 @@ pub(crate) fn last_of_each_key<R: Threads + Sync, K: Key + Send, V: Share + Send
 {
     let mut batch = newest_first(alloc, pairs)?;
     sort_pairs(rt, alloc, batch.as_mut_slice())?;
+    keep_first_of_each_key(&mut batch);
+    Ok(batch)
+}
+
+/// `last_of_each_key` on one thread.
+pub(crate) fn last_of_each_key_alone<K: Key, V: Share>(
+    alloc: Global,
+    pairs: &[(K, V)],
+) -> Result<Vec<(K, V)>, NoMemory>
+    ensures { IfOk result (λ v. IsBatch K.cmp pairs.now v.items) }
+{
+    let mut batch = newest_first(alloc, pairs)?;
+    sort_here(alloc, batch.as_mut_slice())?;
+    keep_first_of_each_key(&mut batch);
+    Ok(batch)
+}
+
+/// Leaves of pairs in a row that have one key the first.
+fn keep_first_of_each_key<K: Key, V: Share>(batch: &mut Vec<(K, V)>)
+    ensures { batch.new.items ≡ dedup (λ x y. is_eq (K.cmp x.0 y.0)) batch.old.items }
+{
     batch.dedup_by(
         |x: &mut (K, V), y: &mut (K, V)| -> bool
             ensures answer { result ≡ is_eq (K.cmp x.old.0 y.old.0) }
@@ -85,7 +107,6 @@ pub(crate) fn last_of_each_key<R: Threads + Sync, K: Key + Send, V: Share + Send
             ensures same_second { y.new ≡ y.old }
         { x.0.cmp(&y.0).is_eq() },
     );
-    Ok(batch)
 }
 
 /// The pairs from last to first.

@@ -1,7 +1,5 @@
 use Rattle.std.proofs.Common.{◌≡◌, ◌++◌, take, drop, length, reverse, arith, rules, subst}
-use Rattle.std.proofs.lemmas.Fn.{dedup_same}
 use Rattle.std.proofs.lemmas.Grind.{common_steps}
-use Rattle.std.specs.Ordering.{is_eq}
 use Rattle.std.specs.List.Sorted.{IsSortedByKey, IsStableByKey}
 use Rattle.batch_ops.proofs.Batches.{batch_of}
 use Rattle.batch_ops.proofs.sorting.last_of_each_key.Goals as goal
@@ -15,9 +13,8 @@ returns g c =
     let pairs = c.args.pairs.now in
     let sorted = c.sort_pairs.new.pairs in
     let old = c.in_ok-batch.batch in
-    let alike = λ (x y : g.row.K.Denot × g.row.V.Denot). is_eq (cmp x.0 y.0) in
     let whole : take old.len (sorted ++ drop (length sorted) old.items) ≡ sorted = grind (arith, common_steps) in
-    let kept = dedup_same _ alike _ (λ x y b f' x' y' k. search rules) _ _ c.dedup_by.ensures.filtered in
+    let kept = c.keep_first_of_each_key.ensures in
     let up : IsSortedByKey (λ (x : g.row.K.Denot × g.row.V.Denot). x.0) cmp sorted = c.in_ok-sort_pairs.ensures.sorted in
     let newest : c.as_mut_slice.result.now ≡ reverse pairs = search rules in
     let stable : IsStableByKey (λ (x : g.row.K.Denot × g.row.V.Denot). x.0) cmp (reverse pairs) sorted = subst (λ xs. IsStableByKey (λ (x : g.row.K.Denot × g.row.V.Denot). x.0) cmp xs sorted) newest c.in_ok-sort_pairs.ensures.stable in
