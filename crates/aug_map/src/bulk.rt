@@ -1,6 +1,6 @@
 //! Operations on whole maps, which fork over the halves of their work where the cut allows it.
 //!
-//! The answers depend neither on the runtime nor on the gate nor on the cut.
+//! The answers depend neither on the runtime nor on the gate nor on the cut; `alone` has the same calls on one thread.
 ghost use Rattle.std.specs.Prelude.{◌≡◌, IfOk};
 ghost use Rattle.std.specs.List.{filter as filtered};
 ghost use Rattle.map_model.specs.Balance.{IsBlockSize};

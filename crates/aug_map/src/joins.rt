@@ -2,10 +2,9 @@
 ghost use Rattle.std.specs.Prelude.{◌≡◌, ◌+◌, ◌*◌, ◌<◌, ◌≤◌, ◌↔◌, [], ◌∷◌, ◌++◌, IfOk, IfSome, IsNone, length, max};
 ghost use Rattle.map_model.specs.Balance.{IsBalanced, weight};
 ghost use Rattle.map_model.specs.Entries.{AllAbove, AllBelow, IsBefore, above, below, lookup};
-ghost use Rattle.map_model.specs.SetOperations.{difference, union};
 
 use crate::map::MapOver;
-use aug_monoid::{Augment, Leaf, NoMemory, Resolve, Steps};
+use aug_monoid::{Augment, Leaf, NoMemory, Steps};
 use std::alloc::Global;
 use std::sync::ledger::Ledger;
 use tree_base::{BlockSize, Width};
@@ -103,32 +102,6 @@ impl<A: Augment, L: Leaf<A::Key, A::Val>, S: BlockSize> MapOver<A, L, S> {
         ensures cost { IsBalanced (weight left.now.entries) (weight right.now.entries) → steps.new ≤ steps.old + (64 * (right.now.height + 1) * (S.SIZE + 2) + 7 * (4 * S.SIZE + 4)) }
     {
         let tree = join_core::join2(alloc, &left.tree, &right.tree, steps)?;
-        Ok(MapOver { tree })
-    }
-
-    /// The entries of either map. At a key of both the value is what `how` makes of the value in `a` and the value in `b`. It
-    /// is `union` on one thread.
-    pub fn merge<R: Resolve<A::Val>>(
-        alloc: Global,
-        a: &MapOver<A, L, S>,
-        b: &MapOver<A, L, S>,
-        how: &R,
-    ) -> Result<MapOver<A, L, S>, NoMemory>
-        ensures { IfOk result (λ map. map.entries ≡ union A.Key.cmp (R.resolved how.now) a.now.entries b.now.entries) }
-    {
-        let tree = bulk_ops::merge(alloc, &a.tree, &b.tree, how)?;
-        Ok(MapOver { tree })
-    }
-
-    /// The entries of `a` whose keys `b` hasn't. It is `difference` on one thread.
-    pub fn subtract(
-        alloc: Global,
-        a: &MapOver<A, L, S>,
-        b: &MapOver<A, L, S>,
-    ) -> Result<MapOver<A, L, S>, NoMemory>
-        ensures { IfOk result (λ map. map.entries ≡ difference A.Key.cmp a.now.entries b.now.entries) }
-    {
-        let tree = bulk_ops::subtract(alloc, &a.tree, &b.tree)?;
         Ok(MapOver { tree })
     }
 }

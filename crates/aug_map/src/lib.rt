@@ -4,6 +4,7 @@
 //! shares what it can with them, so a copy of a map costs no more than a pointer. A call refuses only for want of memory.
 #![tactic(auto)]
 
+mod alone;
 mod bulk;
 mod cross;
 mod cursor;
