@@ -3,8 +3,11 @@ ghost use Rattle.map_model.specs.Balance.{IsBlockSize};
 
 use crate::runs::{Multiples, Sums, multiples_of};
 use aug_monoid::{First, NoMemory, Reduce, Second, Test};
-use batch_ops::{build, multi_del, multi_put};
-use bulk_ops::{difference, filter, intersect, map_reduce, merge, subtract, union};
+use batch_ops::{build, build_alone, multi_del, multi_del_alone, multi_put, multi_put_alone};
+use bulk_ops::{
+    difference, difference_alone, filter, filter_alone, intersect, intersect_alone, map_reduce,
+    map_reduce_alone, union, union_alone,
+};
 use fork_join::{Cut, FreeGate};
 use std::alloc::Global;
 use std::marker::Sync;
@@ -14,19 +17,20 @@ use std::thread::Threads;
 #[derive(Clone, Copy, Debug)]
 enum Combined {
     Union,
-    Merge,
+    UnionAlone,
     Intersection,
+    IntersectionAlone,
     Difference,
-    Subtraction,
+    DifferenceAlone,
 }
 
 // What stands at a key of two maps: a union keeps the first value, the intersection the second.
 fn kept(call: Combined, a: Option<u64>, b: Option<u64>) -> Option<u64> {
     match (call, a, b) {
-        (Combined::Union | Combined::Merge, None, _) => b,
-        (Combined::Union | Combined::Merge, _, _) => a,
-        (Combined::Intersection, Some(_), _) => b,
-        (Combined::Difference | Combined::Subtraction, _, None) => a,
+        (Combined::Union | Combined::UnionAlone, None, _) => b,
+        (Combined::Union | Combined::UnionAlone, _, _) => a,
+        (Combined::Intersection | Combined::IntersectionAlone, Some(_), _) => b,
+        (Combined::Difference | Combined::DifferenceAlone, _, None) => a,
         _ => None,
     }
 }
@@ -60,10 +64,11 @@ fn answer_of<R: Threads + Sync, const B: usize>(
 {
     match call {
         Combined::Union => union(rt, alloc, &FreeGate, cut, a, b, &First),
-        Combined::Merge => merge(alloc, a, b, &First),
+        Combined::UnionAlone => union_alone(alloc, a, b, &First),
         Combined::Intersection => intersect(rt, alloc, &FreeGate, cut, a, b, &Second),
+        Combined::IntersectionAlone => intersect_alone(alloc, a, b, &Second),
         Combined::Difference => difference(rt, alloc, &FreeGate, cut, a, b),
-        Combined::Subtraction => subtract(alloc, a, b),
+        Combined::DifferenceAlone => difference_alone(alloc, a, b),
     }
 }
 
@@ -120,10 +125,11 @@ fn two_maps_are_combined_key_by_key(rt: HostRuntime) -> Result<(), Fail> {
     ] {
         for call in [
             Combined::Union,
-            Combined::Merge,
+            Combined::UnionAlone,
             Combined::Intersection,
+            Combined::IntersectionAlone,
             Combined::Difference,
-            Combined::Subtraction,
+            Combined::DifferenceAlone,
         ] {
             for cut in [Cut::new(1, 1), Cut::new(4, 1), Cut::new(64, 1)] {
                 assert!(rt;
@@ -161,6 +167,18 @@ fn batched<R: Threads + Sync>(
     changed(rt, alloc, &built, puts, keys)
 }
 
+// The same entries on one thread.
+fn batched_alone(
+    alloc: Global,
+    pairs: &[(u64, u64)],
+    puts: &[(u64, u64)],
+    keys: &[u64],
+) -> Result<Vec<(u64, u64)>, NoMemory> {
+    let built: Sums<2> = build_alone(alloc, pairs)?;
+    let put = multi_put_alone(alloc, &built, puts)?;
+    listed(alloc, multi_del_alone(alloc, &put, keys)?)
+}
+
 #[test]
 fn a_later_pair_of_a_key_wins(rt: HostRuntime) -> Result<(), Fail> {
     let pairs = [(5, 50), (1, 10), (5, 51), (3, 30)];
@@ -175,6 +193,8 @@ fn a_later_pair_of_a_key_wins(rt: HostRuntime) -> Result<(), Fail> {
     );
     let left = batched(&rt, rt.alloc(), &pairs, &puts, &keys)?;
     assert_eq!(rt; left.as_slice(), [(1, 10), (4, 41)].as_slice());
+    let alone = batched_alone(rt.alloc(), &pairs, &puts, &keys)?;
+    assert_eq!(rt; alone.as_slice(), left.as_slice());
     Ok(())
 }
 
@@ -246,6 +266,19 @@ fn filtered_sum<R: Threads + Sync>(
     Ok((part.size(), sum))
 }
 
+// The same on one thread.
+fn filtered_sum_alone<R: Threads + Sync>(
+    rt: &R,
+    alloc: Global,
+    cut: Cut,
+    limit: u64,
+) -> Result<(u64, u64), NoMemory> {
+    let all = multiples_of(1, 0, 1000).tree::<R, 2>(rt, alloc, cut)?;
+    let part = filter_alone(alloc, &all, &KeyBelow { limit })?;
+    let sum = map_reduce_alone(alloc, &part, &KeySum)?;
+    Ok((part.size(), sum))
+}
+
 #[test]
 fn a_part_is_filtered_and_summed(rt: HostRuntime) -> Result<(), Fail> {
     for (cut, limit, wanted) in [
@@ -254,6 +287,7 @@ fn a_part_is_filtered_and_summed(rt: HostRuntime) -> Result<(), Fail> {
         (Cut::new(64, 1), 1000, (1000, 499_500)),
     ] {
         assert_eq!(rt; filtered_sum(&rt, rt.alloc(), cut, limit)?, wanted);
+        assert_eq!(rt; filtered_sum_alone(&rt, rt.alloc(), cut, limit)?, wanted);
     }
     Ok(())
 }

@@ -89,7 +89,7 @@ impl Neighbours {
     pub(crate) fn merged(&self, alloc: Global, other: &Neighbours) -> Result<Neighbours, NoMemory>
         ensures { IfOk result (λ set. set ≡ merged self.now other.now) }
     {
-        let set = CodedMap::merge(alloc, &self.set, &other.set, &First)?;
+        let set = self.set.union_alone(alloc, &other.set, &First)?;
         Ok(Neighbours { set })
     }
 
@@ -97,7 +97,7 @@ impl Neighbours {
     fn minus(&self, alloc: Global, other: &Neighbours) -> Result<Neighbours, NoMemory>
         ensures { IfOk result (λ set. set ≡ difference nat_cmp self.now other.now) }
     {
-        let set = CodedMap::subtract(alloc, &self.set, &other.set)?;
+        let set = self.set.difference_alone(alloc, &other.set)?;
         Ok(Neighbours { set })
     }
 }

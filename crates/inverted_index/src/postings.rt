@@ -66,7 +66,7 @@ impl Resolve<Postings> for Merge {
     ghost resolved = { λ _ a b. merged a b };
 
     fn resolve(&self, alloc: Global, a: &Postings, b: &Postings) -> Result<Postings, NoMemory> {
-        let weights = Weights::merge(alloc, &a.weights, &b.weights, &First)?;
+        let weights = a.weights.union_alone(alloc, &b.weights, &First)?;
         Ok(Postings { weights })
     }
 }

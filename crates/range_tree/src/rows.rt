@@ -91,7 +91,7 @@ impl Augment for Places {
         steps: &mut Steps<C>,
     ) -> Result<Rows, NoMemory> {
         steps.tick();
-        let map = MapOver::merge(alloc, &a.map, &b.map, &Second)?;
+        let map = a.map.union_alone(alloc, &b.map, &Second)?;
         Ok(Rows { map })
     }
 }

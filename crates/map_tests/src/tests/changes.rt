@@ -64,8 +64,8 @@ fn exposed<L: Leaf<u64, u64>, const B: usize>(
 
 const SIDES: &[&[(u64, u64)]] = &[&[(2, 20)], &[(6, 60), (8, 80)]];
 
-/// The map merged with one entry, and without the key of that entry.
-fn merged<L: Leaf<u64, u64>, const B: usize>(
+/// The map united with the map of one entry, and without the key of that entry.
+fn united<L: Leaf<u64, u64>, const B: usize>(
     alloc: Global,
     map: &Sums<L, B>,
 ) -> Result<Vec<Entries>, NoMemory>
@@ -73,12 +73,8 @@ fn merged<L: Leaf<u64, u64>, const B: usize>(
 {
     let other: Sums<L, B> = MapOver::single(alloc, 4, 5)?;
     let mut lists = Vec::new(alloc);
-    push_list(
-        alloc,
-        &mut lists,
-        MapOver::merge(alloc, map, &other, &SatSum)?,
-    )?;
-    push_list(alloc, &mut lists, MapOver::subtract(alloc, map, &other)?)?;
+    push_list(alloc, &mut lists, map.union_alone(alloc, &other, &SatSum)?)?;
+    push_list(alloc, &mut lists, map.difference_alone(alloc, &other)?)?;
     Ok(lists)
 }
 
@@ -120,7 +116,7 @@ fn changes_in<R: Abort, L: Leaf<u64, u64>, const B: usize, C: Ledger>(
     assert_lists(rt, &changed(alloc, &map, steps)?, AFTER_CHANGES);
     assert_lists(rt, &parted(alloc, &map, steps)?, PARTS);
     assert_lists(rt, &exposed(alloc, &map)?, SIDES);
-    assert_lists(rt, &merged(alloc, &map)?, WITH_AND_WITHOUT);
+    assert_lists(rt, &united(alloc, &map)?, WITH_AND_WITHOUT);
     assert_lists(rt, &joined(alloc, &map, 6, steps)?, TOGETHER);
     Ok(())
 }

@@ -131,6 +131,43 @@ fn assert_wholes<R: Threads + Sync + Abort, L: Leaf<u64, u64> + Send + Sync>(
     Ok(())
 }
 
+/// Batches on one thread: of the map that they build, after puts, and after removals.
+fn batches_alone<L: Leaf<u64, u64>>(alloc: Global) -> Result<Vec<Entries>, NoMemory> {
+    let built: Sums<L, 32> = MapOver::build_alone(alloc, &[(5, 50), (1, 10), (5, 51)])?;
+    let mut lists = Vec::new(alloc);
+    lists.push(built.to_vec(alloc)?)?;
+    let puts = built.multi_put_alone(alloc, &[(3, 30), (5, 1), (3, 31)])?;
+    lists.push(puts.to_vec(alloc)?)?;
+    push_list(alloc, &mut lists, puts.multi_del_alone(alloc, &[1, 9])?)?;
+    Ok(lists)
+}
+
+/// What a map and itself have in common, and its entries with values of at least 31, on one thread.
+fn kept_alone<L: Leaf<u64, u64>>(alloc: Global, a: &Sums<L, 32>) -> Result<Vec<Entries>, NoMemory> {
+    let mut lists = Vec::new(alloc);
+    push_list(alloc, &mut lists, a.intersect_alone(alloc, a, &SatSum)?)?;
+    push_list(
+        alloc,
+        &mut lists,
+        a.filter_alone(alloc, &AtLeast { bound: 31 })?,
+    )?;
+    Ok(lists)
+}
+
+const KEPT: &[&[(u64, u64)]] = &[&[(1, 20), (5, 102)], &[(5, 51)]];
+
+/// Whether the calls on one thread give what they should, where `a` is 1,10 5,51.
+fn assert_alone<R: Abort, L: Leaf<u64, u64>>(
+    rt: &R,
+    alloc: Global,
+    a: &Sums<L, 32>,
+) -> Result<(), NoMemory> {
+    assert_lists(rt, &batches_alone::<L>(alloc)?, AFTER_BATCHES);
+    assert_lists(rt, &kept_alone(alloc, a)?, KEPT);
+    assert_eq!(rt; a.map_reduce_alone(alloc, &Count)?, 2);
+    Ok(())
+}
+
 #[test]
 fn plain_maps_at_once(rt: HostRuntime) -> Result<(), Fail> {
     let cut = Cut::new(2, 1);
@@ -138,6 +175,7 @@ fn plain_maps_at_once(rt: HostRuntime) -> Result<(), Fail> {
     let a: PlainMap<SumMax<u64>> = MapOver::build(&rt, rt.alloc(), &FreeGate, cut, &first)?;
     let second = [(5, 1), (3, 31)];
     let b: PlainMap<SumMax<u64>> = MapOver::build(&rt, rt.alloc(), &FreeGate, cut, &second)?;
+    assert_alone(&rt, rt.alloc(), &a)?;
     Ok(assert_wholes(&rt, rt.alloc(), &a, &b)?)
 }
 
@@ -148,5 +186,6 @@ fn coded_maps_at_once(rt: HostRuntime) -> Result<(), Fail> {
     let a: CodedMap<SumMax<u64>> = MapOver::build(&rt, rt.alloc(), &FreeGate, cut, &first)?;
     let second = [(5, 1), (3, 31)];
     let b: CodedMap<SumMax<u64>> = MapOver::build(&rt, rt.alloc(), &FreeGate, cut, &second)?;
+    assert_alone(&rt, rt.alloc(), &a)?;
     Ok(assert_wholes(&rt, rt.alloc(), &a, &b)?)
 }
