@@ -1,4 +1,5 @@
 //! Maps at concrete types.
+mod changing;
 mod every_type;
 mod growing;
 mod joining;

@@ -1,0 +1,82 @@
+//! Changes in place of a block that has one owner.
+ghost use Rattle.std.specs.Prelude.{◌≡◌, ◌+◌, ◌<◌, ◌≤◌, ◌↔◌, ◌++◌, IfOk, OnErr, IsSome, IsTrue, length, take, drop};
+ghost use Rattle.map_model.specs.Entries.{IsIncreasing, below, lookup, set};
+ghost use Rattle.map_model.specs.Fold.{fold_of};
+
+use aug_monoid::{Augment, Key, LeafMut, NoMemory, Seek, Share, Steps};
+use std::alloc::Global;
+use std::sync::ledger::Ledger;
+use tree_base::{Block, fold_leaf};
+
+/// Sets a key of a leaf to a value at its place.
+fn put_at_place<K: Key, V: Share, L: LeafMut<K, V>>(
+    alloc: Global,
+    leaf: &mut L,
+    place: Seek,
+    key: K,
+    val: V,
+) -> Result<(), NoMemory>
+    requires increasing { IsIncreasing K.cmp (L.entries leaf.old) }
+    requires short { length (L.entries leaf.old) ≤ 256 }
+    requires at { place.at ≡ length (below K.cmp (L.entries leaf.old) key) }
+    requires hit { IsTrue place.hit ↔ IsSome (lookup K.cmp (L.entries leaf.old) key) }
+    ensures entries { IfOk result (λ _. L.entries leaf.new ≡ set K.cmp (L.entries leaf.old) key val) }
+    ensures kept { OnErr result (L.entries leaf.new ≡ L.entries leaf.old) }
+{
+    if place.hit {
+        leaf.set_at(alloc, place.at, key, val)
+    } else {
+        leaf.insert_at(alloc, place.at, key, val)
+    }
+}
+
+/// Sets a key of a block to a value at its place, and makes the fold anew.
+pub(crate) fn put_in_own_block<A: Augment, L: LeafMut<A::Key, A::Val>, C: Ledger>(
+    alloc: Global,
+    block: &mut Block<A, L>,
+    place: Seek,
+    key: A::Key,
+    val: A::Val,
+    steps: &mut Steps<C>,
+) -> Result<(), NoMemory>
+    requires total { A.never_refuses }
+    requires increasing { IsIncreasing A.Key.cmp (L.entries block.old.leaf) }
+    requires short { length (L.entries block.old.leaf) ≤ 256 }
+    requires at { place.at ≡ length (below A.Key.cmp (L.entries block.old.leaf) key) }
+    requires hit { IsTrue place.hit ↔ IsSome (lookup A.Key.cmp (L.entries block.old.leaf) key) }
+    ensures entries { IfOk result (λ _. L.entries block.new.leaf ≡ set A.Key.cmp (L.entries block.old.leaf) key val) }
+    ensures fold { IfOk result (λ _. block.new.fold ≡ fold_of A.base_of A.unit_of A.combined (L.entries block.new.leaf)) }
+    ensures kept { OnErr result (L.entries block.new.leaf ≡ L.entries block.old.leaf) }
+    ensures kept_fold { OnErr result (block.new.fold ≡ block.old.fold) }
+    ensures cost { steps.new ≤ steps.old + (length (L.entries block.old.leaf) + 1) }
+{
+    put_at_place(alloc, &mut block.leaf, place, key, val)?;
+    let Ok(fold) = fold_leaf::<A, L, C>(alloc, &block.leaf, steps) else {
+        unreachable!()
+    };
+    block.fold = fold;
+    Ok(())
+}
+
+/// Removes the entry at a place from a block, and makes the fold anew.
+pub(crate) fn remove_in_own_block<A: Augment, L: LeafMut<A::Key, A::Val>, C: Ledger>(
+    alloc: Global,
+    block: &mut Block<A, L>,
+    at: u64,
+    steps: &mut Steps<C>,
+) -> Result<(), NoMemory>
+    requires total { A.never_refuses }
+    requires inside { at < length (L.entries block.old.leaf) }
+    ensures entries { IfOk result (λ _. L.entries block.new.leaf ≡ take at (L.entries block.old.leaf) ++ drop (at + 1) (L.entries block.old.leaf)) }
+    ensures fold { IfOk result (λ _. block.new.fold ≡ fold_of A.base_of A.unit_of A.combined (L.entries block.new.leaf)) }
+    ensures kept { OnErr result (L.entries block.new.leaf ≡ L.entries block.old.leaf) }
+    ensures kept_fold { OnErr result (block.new.fold ≡ block.old.fold) }
+    ensures cost { steps.new ≤ steps.old + length (L.entries block.old.leaf) }
+{
+    block.leaf.remove_at(alloc, at)?;
+    let Ok(fold) = fold_leaf::<A, L, C>(alloc, &block.leaf, steps) else {
+        unreachable!()
+    };
+    block.fold = fold;
+    Ok(())
+}

@@ -1,0 +1,16 @@
+//! Changes of single keys in place, in maps whose nodes and blocks have one owner.
+//!
+//! A map is a `Tree` of `tree_base`. As in PAM, a node or block is changed where it stands while nobody else owns it, and
+//! copied where somebody does: a copy of the map that was taken before stays as it was. A call refuses only for want of
+//! memory, and then the map is as it was.
+#![tactic(auto)]
+
+mod blocks;
+mod dels;
+mod nodes;
+mod puts;
+mod unions;
+
+pub use dels::del_mut;
+pub use puts::put_mut;
+pub use unions::put_with;
