@@ -8,6 +8,7 @@ mod dels;
 mod gets;
 mod leaves;
 mod puts;
+mod sides;
 
 pub use dels::del;
 pub use gets::get;

@@ -1,4 +1,3 @@
-use Rattle.std.proofs.Common.{refl}
 use Rattle.map_model.proofs.Keys.{IsIncreasing-around}
 use Rattle.join_core.proofs.joins.join_owned.Goals as goal
 
