@@ -21,7 +21,6 @@ pub type PlainMap<A> = Map<A, PlainLeaf<<A as Augment>::Key, <A as Augment>::Val
 pub type CodedMap<A> = Map<A, DiffLeaf<<A as Augment>::Val>, 32>;
 
 /// A persistent ordered map with the fold of its entries.
-#[derive(Drop)]
 pub struct MapOver<A: Augment, L: Leaf<A::Key, A::Val>, S: BlockSize> {
     pub(crate) tree: TreeOver<A, L, S>,
 }
@@ -32,6 +31,13 @@ impl<A: Augment, L: Leaf<A::Key, A::Val>, S: BlockSize> Model for MapOver<A, L, 
     ghost Value = { Contents A.Key A.Val };
 
     ghost view = { λ m. m.tree };
+}
+
+impl<A: Augment, L: Leaf<A::Key, A::Val>, S: BlockSize> Drop for MapOver<A, L, S> {
+    fn drop(self) {
+        let MapOver { tree } = self;
+        drop(tree);
+    }
 }
 
 impl<A: Augment, L: Leaf<A::Key, A::Val>, S: BlockSize> MapOver<A, L, S> {

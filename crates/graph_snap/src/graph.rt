@@ -17,7 +17,6 @@ use std::thread::Threads;
 
 /// A directed graph, seen as the list of its edges by their first vertex and then by their second. A vertex without edges is
 /// not part of it.
-#[derive(Drop)]
 pub struct Graph {
     vertices: Vertices,
     edges: u64,
@@ -32,6 +31,13 @@ impl Model for Graph {
     ghost view = { λ g. edges_of g.vertices.entries };
 
     ghost invariant = { λ g. AreSets g.vertices.entries × (g.edges ≡ length (edges_of g.vertices.entries)) };
+}
+
+impl Drop for Graph {
+    fn drop(self) {
+        let Graph { vertices, edges: _ } = self;
+        drop(vertices);
+    }
 }
 
 impl Graph {

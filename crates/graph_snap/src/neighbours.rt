@@ -15,7 +15,6 @@ use std::marker::{Model, Sync};
 use std::thread::Threads;
 
 /// The set of a vertex's out-neighbours, as the keys of a map.
-#[derive(Drop)]
 pub struct Neighbours {
     set: CodedMap<Nothing<u64, ()>>,
 }
@@ -26,6 +25,13 @@ impl Model for Neighbours {
     ghost Value = { List (ℕ × Unit {0}) };
 
     ghost view = { λ n. n.set.entries };
+}
+
+impl Drop for Neighbours {
+    fn drop(self) {
+        let Neighbours { set } = self;
+        drop(set);
+    }
 }
 
 impl Share for Neighbours {

@@ -13,7 +13,6 @@ pub(crate) type IntervalMap = PlainMap<MaxRight>;
 
 /// A persistent set of intervals, each from its left end to its right end, both included. Contracts see it as the list of the
 /// intervals by left end and then by right end.
-#[derive(Drop)]
 pub struct Intervals {
     pub(crate) map: IntervalMap,
 }
@@ -31,6 +30,13 @@ impl Model for Intervals {
     ghost view = { λ s. keys_of s.map.entries };
 
     ghost invariant = { λ s. AllByRecursion IsInterval (keys_of s.map.entries) };
+}
+
+impl Drop for Intervals {
+    fn drop(self) {
+        let Intervals { map } = self;
+        drop(map);
+    }
 }
 
 /// The interval from a left end to a right end.

@@ -16,7 +16,6 @@ pub type Lists = PlainMap<Nothing<Term, Postings>>;
 
 /// An index, seen as its documents by rising number, each with its terms and their weights in the order of bytes. A document
 /// of no terms is known too.
-#[derive(Drop)]
 pub struct Index {
     // each with weight 0, so that queries can begin with them
     pub(crate) known: Weights,
@@ -32,6 +31,14 @@ impl Model for Index {
     ghost view = { λ i. documents_of i.known.entries i.lists.entries };
 
     ghost invariant = { λ i. IsIndex i.known.entries i.lists.entries };
+}
+
+impl Drop for Index {
+    fn drop(self) {
+        let Index { known, lists } = self;
+        drop(known);
+        drop(lists);
+    }
 }
 
 impl Index {

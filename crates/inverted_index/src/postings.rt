@@ -11,7 +11,6 @@ use std::marker::Model;
 pub type Weights = PlainMap<SumMax<u64>>;
 
 /// The documents that have a term, with its weights, seen as their list by rising number.
-#[derive(Drop)]
 pub struct Postings {
     weights: Weights,
 }
@@ -22,6 +21,13 @@ impl Model for Postings {
     ghost Value = { List (ℕ × ℕ) };
 
     ghost view = { λ p. p.weights.entries };
+}
+
+impl Drop for Postings {
+    fn drop(self) {
+        let Postings { weights } = self;
+        drop(weights);
+    }
 }
 
 impl Postings {

@@ -21,7 +21,6 @@ use std::sync::ledger::Ledger;
 use thiserror::Error;
 
 /// A term, seen as its bytes. Its copies share them.
-#[derive(Drop)]
 pub struct Term {
     bytes: Arc<Vec<u8>>,
 }
@@ -44,6 +43,13 @@ impl Model for Term {
     ghost Value = { List ℕ };
 
     ghost view = { λ t. (arc_value t.bytes).items };
+}
+
+impl Drop for Term {
+    fn drop(self) {
+        let Term { bytes } = self;
+        drop(bytes);
+    }
 }
 
 fn are_letters_or_digits(bytes: &[u8]) -> bool

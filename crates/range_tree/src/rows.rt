@@ -10,7 +10,6 @@ use std::marker::Model;
 use std::sync::ledger::Ledger;
 
 /// Points by rows: the map from (y, x) to weight, with the sum of the weights. Contracts see the list of its entries.
-#[derive(Drop)]
 pub struct Rows {
     map: PlainMap<SumMax<Pair64>>,
 }
@@ -22,6 +21,13 @@ impl Model for Rows {
     ghost Value = { List (Pair64 × ℕ) };
 
     ghost view = { λ r. r.map.entries };
+}
+
+impl Drop for Rows {
+    fn drop(self) {
+        let Rows { map } = self;
+        drop(map);
+    }
 }
 
 impl Rows {

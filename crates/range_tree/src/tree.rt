@@ -19,7 +19,6 @@ use std::marker::{Model, Sync};
 use std::thread::Threads;
 
 /// Points in the plane, one at a place. Contracts see the map from (x, y) to weight. No call changes its arguments.
-#[derive(Drop)]
 pub struct Points {
     map: PlainMap<Places>,
 }
@@ -35,6 +34,13 @@ impl Model for Points {
     ghost view = { λ p. p.map.entries };
 
     ghost invariant = { λ p. AllKeys IsPlace p.map.entries };
+}
+
+impl Drop for Points {
+    fn drop(self) {
+        let Points { map } = self;
+        drop(map);
+    }
 }
 
 impl Share for Points {

@@ -4,12 +4,11 @@ ghost use Rattle.std.specs.Prelude.{◌≡◌};
 use std::marker::Model;
 
 /// A list in memory.
-#[derive(Drop)]
-pub struct Items<T> {
+pub struct Items<T: Drop> {
     list: Vec<T>,
 }
 
-impl<T> Model for Items<T> {
+impl<T: Drop> Model for Items<T> {
     ghost use Rattle.std.specs.Prelude.{List};
 
     ghost Value = { List T };
@@ -17,7 +16,14 @@ impl<T> Model for Items<T> {
     ghost view = { λ i. i.list.items };
 }
 
-impl<T> Items<T> {
+impl<T: Drop> Drop for Items<T> {
+    fn drop(self) {
+        let Items { list } = self;
+        drop(list);
+    }
+}
+
+impl<T: Drop> Items<T> {
     /// Keeps a list.
     pub fn new(list: Vec<T>) -> Items<T>
         ensures { result ≡ list.items }

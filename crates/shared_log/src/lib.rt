@@ -22,14 +22,13 @@ pub(crate) const PAGE: u64 = 32;
 pub(crate) const LIMIT: u64 = 1 << 60;
 
 /// A persistent list, seen as its items in order.
-#[derive(Drop)]
-pub struct SharedLog<T> {
+pub struct SharedLog<T: Drop> {
     len: u64,
     full: Rows<Page<T>>,
     last: Page<T>,
 }
 
-impl<T> Model for SharedLog<T> {
+impl<T: Drop> Model for SharedLog<T> {
     ghost use Rattle.std.specs.Prelude.{◌≡◌, ◌<◌, ◌^◌, List, ◌++◌, length};
     ghost use Rattle.shared_log.specs.Pages.{paged, AreFull};
 
@@ -38,6 +37,14 @@ impl<T> Model for SharedLog<T> {
     ghost view = { λ a. paged a.full ++ a.last };
 
     ghost invariant = { λ a. (a.len ≡ length (paged a.full ++ a.last)) × AreFull 32 a.full × (a.len < 2 ^ 60) };
+}
+
+impl<T: Drop> Drop for SharedLog<T> {
+    fn drop(self) {
+        let SharedLog { full, last, len: _ } = self;
+        drop(full);
+        drop(last);
+    }
 }
 
 impl<T: Share> SharedLog<T> {

@@ -8,18 +8,24 @@ use std::marker::Model;
 use std::sync::Arc;
 
 /// A page, seen as its items in order. The empty one has no block.
-#[derive(Drop)]
-pub(crate) struct Page<T> {
+pub(crate) struct Page<T: Drop> {
     items: Option<Arc<Vec<T>>>,
 }
 
-impl<T> Model for Page<T> {
+impl<T: Drop> Model for Page<T> {
     ghost use Rattle.std.specs.Prelude.{List};
     ghost use Rattle.shared_log.specs.Pages.{page_items};
 
     ghost Value = { List T };
 
     ghost view = { λ a. page_items a.items };
+}
+
+impl<T: Drop> Drop for Page<T> {
+    fn drop(self) {
+        let Page { items } = self;
+        drop(items);
+    }
 }
 
 impl<T: Share> Page<T> {

@@ -8,14 +8,13 @@ use std::alloc::Global;
 use std::marker::Model;
 
 /// A list in pages, seen as its items in order.
-#[derive(Drop)]
-pub(crate) struct Rows<T> {
+pub(crate) struct Rows<T: Drop> {
     len: u64,
     full: Page<Page<T>>,
     last: Page<T>,
 }
 
-impl<T> Model for Rows<T> {
+impl<T: Drop> Model for Rows<T> {
     ghost use Rattle.std.specs.Prelude.{◌≡◌, List, ◌++◌, length};
     ghost use Rattle.shared_log.specs.Pages.{paged, AreFull};
 
@@ -24,6 +23,14 @@ impl<T> Model for Rows<T> {
     ghost view = { λ a. paged a.full ++ a.last };
 
     ghost invariant = { λ a. (a.len ≡ length (paged a.full ++ a.last)) × AreFull 32 a.full };
+}
+
+impl<T: Drop> Drop for Rows<T> {
+    fn drop(self) {
+        let Rows { full, last, len: _ } = self;
+        drop(full);
+        drop(last);
+    }
 }
 
 impl<T: Share> Rows<T> {

@@ -39,12 +39,24 @@ impl From<NoMemory> for Missed {
 
 /// An end that takes the root's versions, seen as its root, the root's base, its number, what it has seen,
 /// how many turns it has lost, and the word that the last lost turn found.
-#[derive(Drop)]
 pub struct Reader<S: State> {
     pub(crate) root: Arc<Root<S>>,
     pub(crate) seat: Place<S>,
     pub(crate) number: u64,
     pub(crate) stripe: usize,
+}
+
+impl<S: State> Drop for Reader<S> {
+    fn drop(self) {
+        let Reader {
+            root,
+            seat,
+            number: _,
+            stripe: _,
+        } = self;
+        drop(root);
+        drop(seat);
+    }
 }
 
 impl<S: State> Model for Reader<S> {

@@ -151,7 +151,7 @@ pub(crate) fn hand_all<S: State>(stripes: &Stripes<S>, seat: &mut Place<S>, coun
 /// A notice is split off a seat.
 struct Telling;
 
-impl<S, O> Split<View<S, O>> for Telling {
+impl<S, O: Drop> Split<View<S, O>> for Telling {
     ghost left = { λ v. v };
 
     ghost right = { notice_of };
@@ -160,7 +160,7 @@ impl<S, O> Split<View<S, O>> for Telling {
 /// A reader's seat is split off the writer's.
 struct Enlisting;
 
-impl<S, O> Split<View<S, O>> for Enlisting {
+impl<S, O: Drop> Split<View<S, O>> for Enlisting {
     ghost left = { enlisting };
 
     ghost right = { enlisted };
@@ -169,7 +169,7 @@ impl<S, O> Split<View<S, O>> for Enlisting {
 /// A notice is joined into a seat.
 struct Informing;
 
-impl<S, O> Join<View<S, O>> for Informing {
+impl<S, O: Drop> Join<View<S, O>> for Informing {
     ghost both = { informed };
 
     ghost spent = { spent_view };

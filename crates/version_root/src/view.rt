@@ -4,7 +4,7 @@ use std::collections::LinkedList;
 use std::snapshot::Snapshot;
 use versions::{Entry, State, Version};
 
-pub struct View<S, O> {
+pub struct View<S, O: Drop> {
     pub role: Role,
     /// The root's base, unless the seat is spent.
     pub base: Option<S>,

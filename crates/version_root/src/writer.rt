@@ -13,11 +13,23 @@ use std::sync::{Arc, Wait};
 use versions::{State, Version};
 
 /// The one end that gives the root its versions, seen as its root, the root's base, and the journal.
-#[derive(Drop)]
 pub struct Writer<S: State> {
     pub(crate) root: Arc<Root<S>>,
     pub(crate) seat: Place<S>,
     pub(crate) current: Version<S>,
+}
+
+impl<S: State> Drop for Writer<S> {
+    fn drop(self) {
+        let Writer {
+            root,
+            seat,
+            current,
+        } = self;
+        drop(root);
+        drop(seat);
+        drop(current);
+    }
 }
 
 impl<S: State> Model for Writer<S> {

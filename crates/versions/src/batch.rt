@@ -7,18 +7,24 @@ use std::marker::Model;
 use std::sync::Arc;
 
 /// Operations that are applied together, seen as their list in order. A batch may have many owners.
-#[derive(Drop)]
-pub struct Batch<O> {
+pub struct Batch<O: Drop> {
     ops: Arc<Vec<O>>,
 }
 
-impl<O> Model for Batch<O> {
+impl<O: Drop> Model for Batch<O> {
     ghost use Rattle.std.specs.Prelude.{List};
     ghost use Rattle.std.specs.Arc.{arc_value};
 
     ghost Value = { List O };
 
     ghost view = { λ a. (arc_value a.ops).items };
+}
+
+impl<O: Drop> Drop for Batch<O> {
+    fn drop(self) {
+        let Batch { ops } = self;
+        drop(ops);
+    }
 }
 
 impl<O: Share> Batch<O> {
@@ -50,11 +56,21 @@ impl<O: Share> Share for Batch<O> {
 }
 
 /// A batch, with the number of the caller that submitted it and the caller's tag.
-#[derive(Drop)]
-pub struct Entry<O> {
+pub struct Entry<O: Drop> {
     pub caller: u32,
     pub tag: u64,
     pub batch: Batch<O>,
+}
+
+impl<O: Drop> Drop for Entry<O> {
+    fn drop(self) {
+        let Entry {
+            batch,
+            caller: _,
+            tag: _,
+        } = self;
+        drop(batch);
+    }
 }
 
 impl<O: Share> Share for Entry<O> {

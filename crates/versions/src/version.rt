@@ -13,7 +13,6 @@ use std::sync::Arc;
 use std::thread::Threads;
 
 /// A version, seen as its base and its journal. Its state is that after the journal's operations, applied in order to the base.
-#[derive(Drop)]
 pub struct Version<S: State> {
     held: Held<S>,
 }
@@ -52,6 +51,13 @@ impl<S: State> Model for Version<S> {
     ghost use Rattle.versions.specs.Held.{parts_of};
 
     ghost view = { λ a. parts_of a.held };
+}
+
+impl<S: State> Drop for Version<S> {
+    fn drop(self) {
+        let Version { held } = self;
+        drop(held);
+    }
 }
 
 impl<S: State> Version<S> {

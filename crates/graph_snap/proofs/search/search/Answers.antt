@@ -1,13 +1,10 @@
-use Rattle.std.proofs.Common.{◌∙◌, ℕ, ap, refl}
+use Rattle.std.proofs.Common.{◌∙◌, ℕ, ap}
 use Rattle.std.proofs.lemmas.Result.{IfOk-weaker}
 use Rattle.map_model.specs.Contents.{Contents}
 use Rattle.graph_snap.specs.Edges.{edges_of}
 use Rattle.graph_snap.specs.Walks.{as_reached}
 use Rattle.graph_snap.proofs.Fronts.{ends_at, goes_on, less_to_go, starts_at}
 use Rattle.graph_snap.proofs.search.search.Goals as goal
-
-pub same-front-in-levels : goal.same-front-in-levels
-same-front-in-levels g c = refl
 
 pub levels-init : goal.levels-init
 levels-init g c = starts_at (edges_of c.args.vertices.now.entries) c.args.from c.in_ok-front.front.entries c.in_ok-found.found.entries c.in_ok-front.ensures (ap (λ (m : Contents ℕ ℕ). m.entries) c.in_ok-found.ensures.value)

@@ -6,9 +6,6 @@ use Rattle.inverted_index.proofs.ranking.top.Goals as goal
 pub same-steps-in-loop-place-2 : goal.same-steps-in-loop-place-2
 same-steps-in-loop-place-2 g c = refl
 
-pub same-rest : goal.same-rest
-same-rest g c = refl
-
 pub loop-place-preserved : goal.loop-place-preserved
 loop-place-preserved g c =
     let before = c.loop-place.rest.entries in
