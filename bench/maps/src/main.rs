@@ -122,12 +122,13 @@ fn puts(size: u64, seed: u64) {
 }
 
 /// As our puts leave the old map whole, the map is cloned before each put.
-fn puts_ordmap(size: u64, seed: u64) {
+/// Puts into a map of which each old one is kept for a moment, or not.
+fn puts_ordmap(size: u64, seed: u64, keeps_old: bool) {
     let pairs = Numbers::new(seed).pairs(size, 2 * size);
     let start = Instant::now();
     let mut map = OrdMap::new();
     for (key, val) in &pairs {
-        let old = map.clone();
+        let old = keeps_old.then(|| map.clone());
         map.insert(*key, *val);
         black_box(old);
     }
@@ -291,8 +292,8 @@ fn main() {
     let seed: u64 = words[3].parse().expect("a seed");
     let ordmap = words.get(4).is_some_and(|word| word == "ordmap");
     match words[1].as_str() {
-        "put" if ordmap => puts_ordmap(size, seed),
-        "put" => puts(size, seed),
+        operation @ ("put" | "put_mut") if ordmap => puts_ordmap(size, seed, operation == "put"),
+        "put" | "put_mut" => puts(size, seed),
         "get" => gets(size, seed),
         "build" => build(size, seed),
         "union" => {

@@ -1,11 +1,13 @@
 //! The one map type: a persistent ordered map with the fold of its entries.
 //!
-//! Contracts see a `Map` as its entries in the order of their keys, and its height. No call changes its arguments: each answer
-//! shares what it can with them, so a copy of a map costs no more than a pointer. A call refuses only for want of memory.
+//! Contracts see a `Map` as its entries in the order of their keys, and its height. Each answer shares what it can with the
+//! arguments, so a copy of a map costs no more than a pointer. `put_mut`, `del_mut` and `put_with` change the map that they are
+//! called on, and no other; no other call changes an argument. A call refuses only for want of memory.
 #![tactic(auto)]
 
 mod alone;
 mod bulk;
+mod changes;
 mod cross;
 mod cursor;
 mod entries;

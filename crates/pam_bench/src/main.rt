@@ -49,6 +49,7 @@ fn run<R: Threads + Clock + Sync>(
 ) -> Result<Timed> {
     match name {
         "put" => making::time(rt, alloc, Making::Puts, size, seed, cut),
+        "put_mut" => making::time(rt, alloc, Making::PutsInPlace, size, seed, cut),
         "build" => making::time(rt, alloc, Making::Build, size, seed, cut),
         "coded" => making::time(rt, alloc, Making::Coded, size, seed, cut),
         "coded_rising" => making::time(rt, alloc, Making::CodedRising, size, seed, cut),

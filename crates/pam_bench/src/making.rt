@@ -17,8 +17,10 @@ use std::time::Instant;
 /// How a map is made, and of which pairs.
 #[derive(Clone, Copy)]
 pub(crate) enum Making {
-    /// By one put after another.
+    /// By one put after another, each of which makes a new map.
     Puts,
+    /// By one put after another in place.
+    PutsInPlace,
     /// At once.
     Build,
     /// In blocks of gaps, of random keys. The harness reads its memory off the process.
@@ -51,6 +53,28 @@ fn put_all<C: Ledger>(
     Ok(map)
 }
 
+fn put_all_in_place<C: Ledger>(
+    alloc: Global,
+    pairs: &[(u64, u64)],
+    blank: Blank,
+) -> Result<Totaled, NoMemory>
+    requires name { blank.name ≡ C.name }
+    requires parts { blank.parts ≡ C.parts }
+    requires some { 0 < blank.parts }
+{
+    let mut steps = Steps::<C>::start(blank);
+    let mut map = Totaled::empty();
+    for (key, val) in pairs {
+        map.put_mut(alloc, *key, *val, &mut steps)?;
+    }
+    Ok(map)
+}
+
+/// The map of pairs that are put one after another in place.
+fn all_put_in_place(alloc: Global, pairs: &[(u64, u64)]) -> Result<Totaled, NoMemory> {
+    put_all_in_place::<Brand>(alloc, pairs, Blank::new(1))
+}
+
 /// The map of pairs that are put one after another.
 pub(crate) fn all_put(alloc: Global, pairs: &[(u64, u64)]) -> Result<Totaled, NoMemory> {
     put_all::<Brand>(alloc, pairs, Blank::new(1))
@@ -75,6 +99,7 @@ fn make<R: Threads + Sync>(
 ) -> Result<Made, NoMemory> {
     match making {
         Making::Puts => Ok(Made::Plain(all_put(alloc, pairs)?)),
+        Making::PutsInPlace => Ok(Made::Plain(all_put_in_place(alloc, pairs)?)),
         Making::Build => Ok(Made::Plain(built(rt, alloc, cut, pairs)?)),
         Making::Coded | Making::CodedRising => {
             Ok(Made::Coded(Coded::build(rt, alloc, &FreeGate, cut, pairs)?))
@@ -90,7 +115,9 @@ fn pairs_for(
 ) -> Result<Vec<(u64, u64)>, NoMemory> {
     let mut numbers = Numbers::new(seed);
     match making {
-        Making::Puts | Making::Build => numbers.pairs(alloc, size, size.saturating_mul(2)),
+        Making::Puts | Making::PutsInPlace | Making::Build => {
+            numbers.pairs(alloc, size, size.saturating_mul(2))
+        }
         Making::Coded => numbers.wide_pairs(alloc, size),
         Making::CodedRising => rising_pairs(alloc, size),
     }

@@ -4,7 +4,7 @@ ghost use Rattle.map_model.specs.Balance.{IsBlockSize};
 
 use super::sums::{Entries, Sums, assert_lists, map_of, push_list};
 use aug_map::MapOver;
-use aug_monoid::{Leaf, NoMemory, SatSum, Share, Steps};
+use aug_monoid::{Leaf, LeafMut, NoMemory, SatSum, Share, Steps};
 use diff_leaf::DiffLeaf;
 use leaf_blocks::PlainLeaf;
 use std::alloc::Global;
@@ -32,6 +32,27 @@ const AFTER_CHANGES: &[&[(u64, u64)]] = &[
     &[(2, 20), (4, 40), (6, 60), (8, 80)],
     &[(2, 20), (4, 44), (6, 60), (8, 80)],
     &[(4, 40), (6, 60), (8, 80)],
+];
+
+/// A share of the map after a put, a removal and a put onto a value, all in place, and what the map itself is then.
+fn changed_in_place<L: LeafMut<u64, u64>, const B: usize, C: Ledger>(
+    alloc: Global,
+    map: &Sums<L, B>,
+    steps: &mut Steps<C>,
+) -> Result<Vec<Entries>, NoMemory> {
+    let mut share = map.share(alloc)?;
+    share.put_mut(alloc, 5, 50, steps)?;
+    share.del_mut(alloc, &2, steps)?;
+    share.put_with(alloc, 4, 5, &SatSum, steps)?;
+    let mut lists = Vec::new(alloc);
+    push_list(alloc, &mut lists, share)?;
+    push_list(alloc, &mut lists, map.share(alloc)?)?;
+    Ok(lists)
+}
+
+const IN_PLACE: &[&[(u64, u64)]] = &[
+    &[(4, 45), (5, 50), (6, 60), (8, 80)],
+    &[(2, 20), (4, 40), (6, 60), (8, 80)],
 ];
 
 /// The parts below and above a key.
@@ -105,7 +126,7 @@ const TOGETHER: &[&[(u64, u64)]] = &[
 ];
 
 /// Whether each call on the map of four entries gives what it should.
-fn changes_in<R: Abort, L: Leaf<u64, u64>, const B: usize, C: Ledger>(
+fn changes_in<R: Abort, L: LeafMut<u64, u64>, const B: usize, C: Ledger>(
     rt: &R,
     alloc: Global,
     steps: &mut Steps<C>,
@@ -114,6 +135,7 @@ fn changes_in<R: Abort, L: Leaf<u64, u64>, const B: usize, C: Ledger>(
 {
     let map: Sums<L, B> = map_of(alloc, &ENTRIES, steps)?;
     assert_lists(rt, &changed(alloc, &map, steps)?, AFTER_CHANGES);
+    assert_lists(rt, &changed_in_place(alloc, &map, steps)?, IN_PLACE);
     assert_lists(rt, &parted(alloc, &map, steps)?, PARTS);
     assert_lists(rt, &exposed(alloc, &map)?, SIDES);
     assert_lists(rt, &united(alloc, &map)?, WITH_AND_WITHOUT);
@@ -122,7 +144,7 @@ fn changes_in<R: Abort, L: Leaf<u64, u64>, const B: usize, C: Ledger>(
 }
 
 /// The same for blocks of 2 and of 32 entries.
-fn changes_counted<R: Abort, L: Leaf<u64, u64>, C: Ledger>(
+fn changes_counted<R: Abort, L: LeafMut<u64, u64>, C: Ledger>(
     rt: &R,
     alloc: Global,
     blank: Blank,
@@ -136,7 +158,7 @@ fn changes_counted<R: Abort, L: Leaf<u64, u64>, C: Ledger>(
     changes_in::<R, L, 32, C>(rt, alloc, &mut steps)
 }
 
-fn changes<R: Abort, L: Leaf<u64, u64>>(rt: &R, alloc: Global) -> Result<(), NoMemory> {
+fn changes<R: Abort, L: LeafMut<u64, u64>>(rt: &R, alloc: Global) -> Result<(), NoMemory> {
     changes_counted::<R, L, Brand>(rt, alloc, Blank::new(1))
 }
 
