@@ -4,6 +4,7 @@ mod counted;
 mod counting;
 mod cursors;
 mod nested;
+mod ordered;
 mod plain;
 mod queries;
 mod refusing;

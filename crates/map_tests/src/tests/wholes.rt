@@ -14,8 +14,8 @@ use std::thread::Threads;
 
 /// Values of at least `bound`.
 #[derive(Drop)]
-struct AtLeast {
-    bound: u64,
+pub(super) struct AtLeast {
+    pub(super) bound: u64,
 }
 
 impl Test<u64, u64> for AtLeast {

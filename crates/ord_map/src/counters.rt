@@ -1,0 +1,125 @@
+//! Calls that count their steps, each with a counter of its own.
+ghost use Rattle.std.specs.Prelude.{◌≡◌, ◌<◌, IfOk, IsOk, OnErr};
+ghost use Rattle.map_model.specs.Entries.{drop_key, lookup, set};
+ghost use Rattle.map_model.specs.Fold.{range_fold};
+ghost use Rattle.map_model.specs.Parts.{next, prev, rank};
+
+use aug_map::PlainMap;
+use aug_monoid::{Augment, NoMemory, Steps};
+use std::alloc::Global;
+use std::sync::ledger::{Blank, Ledger};
+
+/// The value at a key.
+pub(crate) fn get<A: Augment, C: Ledger>(
+    alloc: Global,
+    map: &PlainMap<A>,
+    key: &A::Key,
+    blank: Blank,
+) -> Result<Option<A::Val>, NoMemory>
+    requires name { blank.name ≡ C.name }
+    requires parts { blank.parts ≡ C.parts }
+    requires some { 0 < blank.parts }
+    ensures value { IfOk result (λ val. val ≡ lookup A.Key.cmp map.now.entries key.now) }
+    ensures succeeds { A.Key.never_refuses → A.Val.never_refuses → IsOk result }
+{
+    let mut steps = Steps::<C>::start(blank);
+    map.get(alloc, key, &mut steps)
+}
+
+/// Sets a key to a value.
+pub(crate) fn put<A: Augment, C: Ledger>(
+    alloc: Global,
+    map: &mut PlainMap<A>,
+    key: A::Key,
+    val: A::Val,
+    blank: Blank,
+) -> Result<(), NoMemory>
+    requires name { blank.name ≡ C.name }
+    requires parts { blank.parts ≡ C.parts }
+    requires some { 0 < blank.parts }
+    ensures entries { IfOk result (λ _. map.new.entries ≡ set A.Key.cmp map.old.entries key val) }
+    ensures kept { OnErr result (map.new ≡ map.old) }
+{
+    let mut steps = Steps::<C>::start(blank);
+    map.put_mut(alloc, key, val, &mut steps)
+}
+
+/// Removes a key.
+pub(crate) fn del<A: Augment, C: Ledger>(
+    alloc: Global,
+    map: &mut PlainMap<A>,
+    key: &A::Key,
+    blank: Blank,
+) -> Result<(), NoMemory>
+    requires name { blank.name ≡ C.name }
+    requires parts { blank.parts ≡ C.parts }
+    requires some { 0 < blank.parts }
+    ensures entries { IfOk result (λ _. map.new.entries ≡ drop_key A.Key.cmp map.old.entries key.now) }
+    ensures kept { OnErr result (map.new ≡ map.old) }
+{
+    let mut steps = Steps::<C>::start(blank);
+    map.del_mut(alloc, key, &mut steps)
+}
+
+/// The fold of the entries with keys from `lo` to `hi`.
+pub(crate) fn range_fold<A: Augment, C: Ledger>(
+    alloc: Global,
+    map: &PlainMap<A>,
+    lo: &A::Key,
+    hi: &A::Key,
+    blank: Blank,
+) -> Result<A::Aug, NoMemory>
+    requires name { blank.name ≡ C.name }
+    requires parts { blank.parts ≡ C.parts }
+    requires some { 0 < blank.parts }
+    ensures value { IfOk result (λ aug. aug ≡ range_fold A.Key.cmp A.base_of A.unit_of A.combined map.now.entries lo.now hi.now) }
+    ensures succeeds { A.never_refuses → IsOk result }
+{
+    let mut steps = Steps::<C>::start(blank);
+    map.aug_range(alloc, lo, hi, &mut steps)
+}
+
+/// How many keys are less.
+pub(crate) fn rank<A: Augment, C: Ledger>(map: &PlainMap<A>, key: &A::Key, blank: Blank) -> u64
+    requires name { blank.name ≡ C.name }
+    requires parts { blank.parts ≡ C.parts }
+    requires some { 0 < blank.parts }
+    ensures { result ≡ rank A.Key.cmp map.now.entries key.now }
+{
+    let mut steps = Steps::<C>::start(blank);
+    map.rank(key, &mut steps)
+}
+
+/// The entry with the least greater key.
+pub(crate) fn next<A: Augment, C: Ledger>(
+    alloc: Global,
+    map: &PlainMap<A>,
+    key: &A::Key,
+    blank: Blank,
+) -> Result<Option<(A::Key, A::Val)>, NoMemory>
+    requires name { blank.name ≡ C.name }
+    requires parts { blank.parts ≡ C.parts }
+    requires some { 0 < blank.parts }
+    ensures value { IfOk result (λ entry. entry ≡ next A.Key.cmp map.now.entries key.now) }
+    ensures succeeds { A.Key.never_refuses → A.Val.never_refuses → IsOk result }
+{
+    let mut steps = Steps::<C>::start(blank);
+    map.next(alloc, key, &mut steps)
+}
+
+/// The entry with the greatest lesser key.
+pub(crate) fn prev<A: Augment, C: Ledger>(
+    alloc: Global,
+    map: &PlainMap<A>,
+    key: &A::Key,
+    blank: Blank,
+) -> Result<Option<(A::Key, A::Val)>, NoMemory>
+    requires name { blank.name ≡ C.name }
+    requires parts { blank.parts ≡ C.parts }
+    requires some { 0 < blank.parts }
+    ensures value { IfOk result (λ entry. entry ≡ prev A.Key.cmp map.now.entries key.now) }
+    ensures succeeds { A.Key.never_refuses → A.Val.never_refuses → IsOk result }
+{
+    let mut steps = Steps::<C>::start(blank);
+    map.prev(alloc, key, &mut steps)
+}

@@ -1,0 +1,91 @@
+//! The map, and what it tells without a walk.
+ghost use Rattle.std.specs.Prelude.{◌≡◌, ◌<◌, ◌^◌, ◌↔◌, [], IfSome, IsNone, IsTrue, length};
+ghost use Rattle.map_model.specs.Entries.{IsIncreasing};
+ghost use Rattle.map_model.specs.Fold.{fold_of};
+
+use aug_map::{CursorOver, PlainMap};
+use aug_monoid::{Augment, NoMemory, Share};
+use leaf_blocks::PlainLeaf;
+use std::alloc::Global;
+use std::marker::Model;
+use tree_base::Width;
+
+/// The entries of a map in the order of their keys: one item an entry, a share of it or a refusal of that share.
+pub type Iter<'a, A> = CursorOver<
+    'a,
+    A,
+    PlainLeaf<<A as Augment>::Key, <A as Augment>::Val>,
+    Width<32>,
+>;
+
+/// A persistent ordered map with the fold of its entries.
+pub struct OrdMap<A: Augment> {
+    pub(crate) map: PlainMap<A>,
+}
+
+impl<A: Augment> Model for OrdMap<A> {
+    ghost use Rattle.std.specs.Prelude.{List};
+
+    ghost Value = { List (A.Key × A.Val) };
+
+    ghost view = { λ m. m.map.entries };
+}
+
+impl<A: Augment> Drop for OrdMap<A> {
+    fn drop(self) {
+        let OrdMap { map } = self;
+        drop(map);
+    }
+}
+
+impl<A: Augment> OrdMap<A> {
+    /// The map with no entries, in O(1). It takes no memory.
+    pub fn new() -> OrdMap<A>
+        ensures { result ≡ [] }
+    {
+        OrdMap {
+            map: PlainMap::empty(),
+        }
+    }
+
+    /// How many entries there are, in O(1).
+    pub fn len(&self) -> u64
+        ensures value { result ≡ length self.now }
+        ensures fits { result < 2 ^ 60 }
+        ensures increasing { IsIncreasing A.Key.cmp self.now }
+    {
+        self.map.size()
+    }
+
+    /// Whether there are no entries, in O(1).
+    pub fn is_empty(&self) -> bool
+        ensures { IsTrue result ↔ (self.now ≡ []) }
+    {
+        self.map.aug().is_none()
+    }
+
+    /// The fold of all entries, which is stored, in O(1); none exactly where there are no entries.
+    pub fn fold(&self) -> Option<&A::Aug>
+        ensures none { IsNone result ↔ (self.now ≡ []) }
+        ensures fold { IfSome result (λ aug. aug.now ≡ fold_of A.base_of A.unit_of A.combined self.now) }
+    {
+        self.map.aug()
+    }
+
+    /// Goes over the entries in the order of their keys, in O(n) for all of them.
+    pub fn iter(&self, alloc: Global) -> Iter<'_, A>
+        ensures { result ≡ self.now }
+    {
+        self.map.cursor(alloc)
+    }
+}
+
+impl<A: Augment> Share for OrdMap<A> {
+    ghost never_refuses = { ⊥ };
+
+    /// A map of the same entries, in O(1) and in the memory of this one.
+    fn share(&self, alloc: Global) -> Result<OrdMap<A>, NoMemory> {
+        let map = self.map.share(alloc)?;
+        Ok(OrdMap { map })
+    }
+}

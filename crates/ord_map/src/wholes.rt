@@ -1,0 +1,89 @@
+//! Whole maps: of pairs, of two maps, and of the entries that pass a test.
+ghost use Rattle.std.specs.Prelude.{◌≡◌, IfOk, OnErr};
+ghost use Rattle.map_model.specs.Operations.{after, build, puts};
+ghost use Rattle.map_model.specs.SetOperations.{difference, intersect, union};
+ghost use Rattle.std.specs.List.{filter as filtered};
+
+use crate::map::OrdMap;
+use aug_map::PlainMap;
+use aug_monoid::{Augment, NoMemory, Resolve, Second, Test};
+use std::alloc::Global;
+
+impl<A: Augment> OrdMap<A> {
+    /// The map that pairs make, put in order into the empty map, so that a later pair of a key wins. For n pairs it takes
+    /// O(n log n).
+    pub fn from_pairs(alloc: Global, pairs: &[(A::Key, A::Val)]) -> Result<OrdMap<A>, NoMemory>
+        ensures { IfOk result (λ map. map ≡ build A.Key.cmp pairs.now) }
+    {
+        let map = PlainMap::build_alone(alloc, pairs)?;
+        Ok(OrdMap { map })
+    }
+
+    /// Puts pairs in order, so that a later pair of a key wins. For m pairs it takes O(m log n).
+    pub fn extend(&mut self, alloc: Global, pairs: &[(A::Key, A::Val)]) -> Result<(), NoMemory>
+        ensures entries { IfOk result (λ _. self.new ≡ after A.Key.cmp self.old (puts pairs.now)) }
+        ensures kept { OnErr result (self.new ≡ self.old) }
+    {
+        self.map = self.map.multi_put_alone(alloc, pairs)?;
+        Ok(())
+    }
+
+    /// Puts the entries of another map, whose values win. For maps of m and n entries, m at most n, it takes
+    /// O(m log(n / m + 1)).
+    pub fn append(&mut self, alloc: Global, other: &OrdMap<A>) -> Result<(), NoMemory>
+        ensures entries { IfOk result (λ _. self.new ≡ union A.Key.cmp (λ _ b. b) self.old other.now) }
+        ensures kept { OnErr result (self.new ≡ self.old) }
+    {
+        self.map = self.map.union_alone(alloc, &other.map, &Second)?;
+        Ok(())
+    }
+
+    /// The entries of either map; at a key of both with what `how` makes of the value here and the value in `other`. For maps
+    /// of m and n entries, m at most n, it takes O(m log(n / m + 1)).
+    pub fn union<H: Resolve<A::Val>>(
+        &self,
+        alloc: Global,
+        other: &OrdMap<A>,
+        how: &H,
+    ) -> Result<OrdMap<A>, NoMemory>
+        ensures { IfOk result (λ both. both ≡ union A.Key.cmp (H.resolved how.now) self.now other.now) }
+    {
+        let map = self.map.union_alone(alloc, &other.map, how)?;
+        Ok(OrdMap { map })
+    }
+
+    /// The entries whose keys both maps have, with what `how` makes of the value here and the value in `other`, in the time of
+    /// `union`.
+    pub fn intersection<H: Resolve<A::Val>>(
+        &self,
+        alloc: Global,
+        other: &OrdMap<A>,
+        how: &H,
+    ) -> Result<OrdMap<A>, NoMemory>
+        ensures { IfOk result (λ both. both ≡ intersect A.Key.cmp (H.resolved how.now) self.now other.now) }
+    {
+        let map = self.map.intersect_alone(alloc, &other.map, how)?;
+        Ok(OrdMap { map })
+    }
+
+    /// The entries whose keys `other` hasn't, in the time of `union`.
+    pub fn difference(&self, alloc: Global, other: &OrdMap<A>) -> Result<OrdMap<A>, NoMemory>
+        ensures { IfOk result (λ rest. rest ≡ difference A.Key.cmp self.now other.now) }
+    {
+        let map = self.map.difference_alone(alloc, &other.map)?;
+        Ok(OrdMap { map })
+    }
+
+    /// Keeps the entries that pass, in O(n).
+    pub fn retain<T: Test<A::Key, A::Val>>(
+        &mut self,
+        alloc: Global,
+        test: &T,
+    ) -> Result<(), NoMemory>
+        ensures entries { IfOk result (λ _. self.new ≡ filtered (λ e. T.passes test.now e.0 e.1) self.old) }
+        ensures kept { OnErr result (self.new ≡ self.old) }
+    {
+        self.map = self.map.filter_alone(alloc, test)?;
+        Ok(())
+    }
+}
