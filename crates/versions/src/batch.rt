@@ -56,21 +56,11 @@ impl<O: Share> Share for Batch<O> {
 }
 
 /// A batch, with the number of the caller that submitted it and the caller's tag.
+#[derive(Drop)]
 pub struct Entry<O: Drop> {
     pub caller: u32,
     pub tag: u64,
     pub batch: Batch<O>,
-}
-
-impl<O: Drop> Drop for Entry<O> {
-    fn drop(self) {
-        let Entry {
-            batch,
-            caller: _,
-            tag: _,
-        } = self;
-        drop(batch);
-    }
 }
 
 impl<O: Share> Share for Entry<O> {
