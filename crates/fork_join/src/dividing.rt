@@ -3,7 +3,7 @@ ghost use Rattle.std.specs.Prelude.{IfOk};
 ghost use Rattle.std.specs.Thread.{IsSend, IsSync};
 
 use crate::cut::Cut;
-use crate::fork::fork2;
+use crate::fork::{Sizes, fork_halves};
 use crate::gate::Gate;
 use crate::work::{Divide, Opened};
 use aug_monoid::NoMemory;
@@ -11,7 +11,8 @@ use std::alloc::Global;
 use std::marker::{Send, Sync};
 use std::thread::Threads;
 
-/// The answer for a part, by halves of halves, forked where the cut allows it.
+/// The answer for a part, by halves of halves, forked where the cut allows it. A half that is too small for a worker of its own
+/// is done by the caller's thread, and takes no worker from the other.
 /// The answer depends on neither the runtime nor the gate nor the cut.
 #[cycle(divide)]
 pub fn divide<
@@ -25,10 +26,15 @@ pub fn divide<
     requires { D.fits work.now part }
     ensures { IfOk result (D.answers work.now part) }
 {
-    let size = work.size(&part);
+    let whole = work.size(&part);
     match work.open(alloc, part)? {
         Opened::Done(out) => Ok(out),
         Opened::Split(front, middle, back) => {
+            let sizes = Sizes {
+                whole,
+                front: work.size(&front),
+                back: work.size(&back),
+            };
             let near = move |cut: Cut| -> Result<O, NoMemory>
                 requires { IsSync R.row × IsSync G.row × IsSync D.row × IsSend P.row × IsSend M.row × IsSend O.row × D.fits work.now front }
                 ensures { IfOk result (D.answers work.entry.now front) }
@@ -37,7 +43,7 @@ pub fn divide<
                 requires { IsSync R.row × IsSync G.row × IsSync D.row × IsSend P.row × IsSend M.row × IsSend O.row × D.fits work.now back }
                 ensures { IfOk result (D.answers work.entry.now back) }
             { divide(rt, alloc, gate, cut, work, back) };
-            let (left, right) = fork2(rt, gate, cut, size, near, far);
+            let (left, right) = fork_halves(rt, gate, cut, sizes, near, far);
             work.close(alloc, left?, middle, right?)
         }
     }

@@ -7,6 +7,14 @@ use std::marker::{Send, Sync};
 use std::thread;
 use std::thread::Threads;
 
+/// How much work a part and its halves are.
+#[derive(Clone, Copy)]
+pub(crate) struct Sizes {
+    pub(crate) whole: u64,
+    pub(crate) front: u64,
+    pub(crate) back: u64,
+}
+
 /// Calls both closures once, each with a lawful cut, and answers what they answer.
 ///
 /// Where the cut has at least 2 workers and the size is at least its grain, they run side by side: the
@@ -49,5 +57,34 @@ pub fn fork2<
         let first = left(alone);
         let second = right(alone);
         (first, second)
+    }
+}
+
+/// `fork2` for two halves of given sizes. A half whose share of the workers is less than one worker is done first or last by the
+/// caller's thread, and the other half has the whole cut.
+pub(crate) fn fork_halves<
+    R: Threads + Sync,
+    G: Gate,
+    F: Send,
+    H: Send,
+    P: FnOnce(Cut) -> F + Send,
+    Q: FnOnce(Cut) -> H + Send,
+>(rt: &R, gate: &G, cut: Cut, sizes: Sizes, left: P, right: Q) -> (F, H)
+    requires left { P.IsAlwaysCallable left }
+    requires right { Q.IsAlwaysCallable right }
+    ensures left { (c : Cut) × P.post left c result.0 }
+    ensures right { (c : Cut) × Q.post right c result.1 }
+{
+    let workers = cut.workers as u64;
+    if sizes.front < sizes.back / workers {
+        let first = left(cut.alone());
+        let second = right(cut);
+        (first, second)
+    } else if sizes.back < sizes.front / workers {
+        let first = left(cut);
+        let second = right(cut.alone());
+        (first, second)
+    } else {
+        fork2(rt, gate, cut, sizes.whole, left, right)
     }
 }
