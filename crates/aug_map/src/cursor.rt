@@ -6,7 +6,7 @@ ghost use Rattle.aug_map.specs.Places.{IsBehind, IsPlace};
 
 use crate::map::MapOver;
 use crate::seat::{Seat, find_seat};
-use aug_monoid::{Augment, Key, Leaf, NoMemory, Share, Walk};
+use aug_monoid::{Augment, Key, Leaf, NoMemory, Share, Walk, share_entry};
 use std::alloc::Global;
 use std::marker::Model;
 use tree_base::{BlockSize, TreeOver, Width};
@@ -63,15 +63,6 @@ impl<A: Augment, L: Leaf<A::Key, A::Val>, S: BlockSize> MapOver<A, L, S> {
     }
 }
 
-fn share_entry<K: Share, V: Share>(alloc: Global, key: &K, val: &V) -> Result<(K, V), NoMemory>
-    ensures value { IfOk result (λ entry. entry ≡ (key.now, val.now)) }
-    ensures succeeds { K.never_refuses → V.never_refuses → IsOk result }
-{
-    let key = key.share(alloc)?;
-    let val = val.share(alloc)?;
-    Ok((key, val))
-}
-
 // The entry at a place of a leaf, by the walk where that is there, else by its number.
 fn read_entry<K: Key, V: Share, L: Leaf<K, V>>(
     alloc: Global,
@@ -85,16 +76,14 @@ fn read_entry<K: Key, V: Share, L: Leaf<K, V>>(
     ensures succeeds { K.never_refuses → V.never_refuses → IsOk result }
     ensures fits { L.fits_walk leaf.now walk.new }
 {
-    if walk.index == at {
-        match leaf.walk_next(alloc, walk)? {
-            Some(entry) => Ok(entry),
-            None => unreachable!(),
-        }
+    let entry = if walk.index == at {
+        leaf.walk_next(walk)
     } else {
-        match leaf.get_at(alloc, at)? {
-            Some(entry) => Ok(entry),
-            None => unreachable!(),
-        }
+        leaf.get_at(at)
+    };
+    match entry {
+        Some(entry) => entry.into_entry(alloc),
+        None => unreachable!(),
     }
 }
 

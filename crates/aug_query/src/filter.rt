@@ -50,14 +50,14 @@ fn filter_block<A: Augment, L: Leaf<A::Key, A::Val>, T: AugTest<A>>(
     let mut kept = Vec::new(alloc);
     let mut walk = leaf.walk();
     for _at in 0..leaf.len() {
-        let Some((key, val)) = leaf.walk_next(alloc, &mut walk)? else {
+        let Some(entry) = leaf.walk_next(&mut walk) else {
             unreachable!()
         };
-        let base = A::base(&key, &val, alloc)?;
+        let base = A::base(alloc, entry.key(), entry.val())?;
         if !test.passes(&base) {
             continue;
         }
-        kept.push((key, val))?;
+        kept.push(entry.into_entry(alloc)?)?;
     }
     Ok(kept)
 }
@@ -93,7 +93,7 @@ fn filter_leaf<A: Augment, L: Leaf<A::Key, A::Val>, S: BlockSize, T: AugTest<A>,
     if kept.len() as u64 == leaf.len() {
         return tree.share(alloc);
     }
-    TreeOver::from_increasing(alloc, &kept, steps)
+    TreeOver::from_owned(alloc, kept, steps)
 }
 
 /// What passed of a tree's two sides, with its entry between them where it passes: the tree itself where nothing is left out.
@@ -112,7 +112,7 @@ fn filter_node<A: Augment, L: Leaf<A::Key, A::Val>, S: BlockSize, T: AugTest<A>,
     requires whole { length front.now.entries + length back.now.entries + 1 ≡ length tree.now.entries → tree.now.entries ≡ front.now.entries ++ (key.now, val.now) ∷ back.now.entries }
     ensures { IfOk result (λ kept. kept.entries ≡ front.now.entries ++ (if T.admits test.now (A.base_of key.now val.now) then (key.now, val.now) ∷ back.now.entries else back.now.entries)) }
 {
-    let base = A::base(key, val, alloc)?;
+    let base = A::base(alloc, key, val)?;
     if !test.passes(&base) {
         return join2(alloc, front, back, steps);
     }

@@ -89,17 +89,18 @@ fn fold_block<A: Augment, L: Leaf<A::Key, A::Val>, C: Ledger>(
     let mut fold = A::unit();
     let mut walk = leaf.walk();
     for _at in 0..leaf.len() {
-        let Some((key, val)) = leaf.walk_next(alloc, &mut walk)? else {
+        let Some(entry) = leaf.walk_next(&mut walk) else {
             unreachable!()
         };
-        if range.ends_before(&key, steps) {
+        let key = entry.key();
+        if range.ends_before(key, steps) {
             return Ok(fold);
         }
-        if range.begins_after(&key, steps) {
+        if range.begins_after(key, steps) {
             continue;
         }
-        let base = A::base(&key, &val, alloc)?;
-        fold = A::combine(&fold, &base, alloc, steps)?;
+        let base = A::base(alloc, key, entry.val())?;
+        fold = A::combine(alloc, &fold, &base, steps)?;
     }
     Ok(fold)
 }
@@ -142,10 +143,10 @@ fn fold_span<A: Augment, L: Leaf<A::Key, A::Val>, S: BlockSize, C: Ledger>(
                 range: range.right_part(),
             };
             let before = fold_span(alloc, low, steps)?;
-            let middle = A::base(key, val, alloc)?;
-            let front = A::combine(&before, &middle, alloc, steps)?;
+            let middle = A::base(alloc, key, val)?;
+            let front = A::combine(alloc, &before, &middle, steps)?;
             let after = fold_span(alloc, high, steps)?;
-            A::combine(&front, &after, alloc, steps)
+            A::combine(alloc, &front, &after, steps)
         }
     }
 }

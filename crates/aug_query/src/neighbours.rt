@@ -4,8 +4,8 @@ ghost use Rattle.std.specs.List.{last_or};
 ghost use Rattle.map_model.specs.Entries.{IsIncreasing};
 ghost use Rattle.map_model.specs.Parts.{next, prev};
 
-use crate::places::{select, share_entry};
-use aug_monoid::{Augment, Key, Leaf, NoMemory, Share, Steps};
+use crate::places::select;
+use aug_monoid::{Augment, Key, Leaf, NoMemory, Share, Steps, owned, share_entry};
 use join_core::Part;
 use std::alloc::Global;
 use std::cmp::Ordering;
@@ -109,9 +109,9 @@ fn next_in_block<K: Key, V: Share, L: Leaf<K, V>, C: Ledger>(
     let place = leaf.seek(key, steps);
     if place.hit {
         let _number = leaf.len();
-        leaf.get_at(alloc, place.at + 1)
+        owned(alloc, leaf.get_at(place.at + 1))
     } else {
-        leaf.get_at(alloc, place.at)
+        owned(alloc, leaf.get_at(place.at))
     }
 }
 
@@ -129,7 +129,7 @@ fn prev_in_block<K: Key, V: Share, L: Leaf<K, V>, C: Ledger>(
     if before == 0 {
         Ok(None)
     } else {
-        leaf.get_at(alloc, before - 1)
+        owned(alloc, leaf.get_at(before - 1))
     }
 }
 

@@ -80,16 +80,17 @@ fn keep_block<K: Key, V: Share, L: Leaf<K, V>, C: Ledger>(
     let mut kept = Vec::new(alloc);
     let mut walk = leaf.walk();
     for _at in 0..leaf.len() {
-        let Some((key, val)) = leaf.walk_next(alloc, &mut walk)? else {
+        let Some(entry) = leaf.walk_next(&mut walk) else {
             unreachable!()
         };
-        if range.ends_before(&key, steps) {
+        let key = entry.key();
+        if range.ends_before(key, steps) {
             return Ok(kept);
         }
-        if range.begins_after(&key, steps) {
+        if range.begins_after(key, steps) {
             continue;
         }
-        kept.push((key, val))?;
+        kept.push(entry.into_entry(alloc)?)?;
     }
     Ok(kept)
 }
@@ -110,7 +111,7 @@ fn keep_span<A: Augment, L: Leaf<A::Key, A::Val>, S: BlockSize, C: Ledger>(
         LookOver::Empty => tree.share(alloc),
         LookOver::Block { leaf } => {
             let kept = keep_block::<A::Key, A::Val, L, C>(alloc, leaf, &range, steps)?;
-            TreeOver::from_increasing(alloc, &kept, steps)
+            TreeOver::from_owned(alloc, kept, steps)
         }
         LookOver::Node {
             left,

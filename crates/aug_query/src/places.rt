@@ -2,7 +2,7 @@
 ghost use Rattle.std.specs.Prelude.{◌≡◌, ◌+◌, ◌≤◌, ◌<◌, IfOk, IsOk};
 ghost use Rattle.map_model.specs.Parts.{rank, select};
 
-use aug_monoid::{Augment, Key, Leaf, NoMemory, Share, Steps};
+use aug_monoid::{Augment, Key, Leaf, NoMemory, Steps, owned, share_entry};
 use join_core::Part;
 use std::alloc::Global;
 use std::cmp::Ordering;
@@ -58,7 +58,7 @@ pub fn select<A: Augment, L: Leaf<A::Key, A::Val>, S: BlockSize>(
 {
     match tree.look() {
         LookOver::Empty => Ok(None),
-        LookOver::Block { leaf } => leaf.get_at(alloc, at),
+        LookOver::Block { leaf } => owned(alloc, leaf.get_at(at)),
         LookOver::Node {
             left,
             key,
@@ -75,18 +75,4 @@ pub fn select<A: Augment, L: Leaf<A::Key, A::Val>, S: BlockSize>(
             }
         }
     }
-}
-
-/// Another owner of an entry.
-pub(crate) fn share_entry<K: Share, V: Share>(
-    alloc: Global,
-    key: &K,
-    val: &V,
-) -> Result<(K, V), NoMemory>
-    ensures value { IfOk result (λ entry. entry ≡ (key.now, val.now)) }
-    ensures succeeds { K.never_refuses → V.never_refuses → IsOk result }
-{
-    let key = key.share(alloc)?;
-    let val = val.share(alloc)?;
-    Ok((key, val))
 }

@@ -67,7 +67,7 @@ fn project_entry<A: Augment, P: Project<A>>(
 ) -> Result<P::Out, NoMemory>
     ensures { IfOk result (λ out. out ≡ P.image_of how.now (A.base_of key.now val.now)) }
 {
-    let base = A::base(key, val, alloc)?;
+    let base = A::base(alloc, key, val)?;
     how.image(alloc, &base)
 }
 
@@ -85,16 +85,17 @@ fn project_block<A: Augment, L: Leaf<A::Key, A::Val>, P: Project<A>, C: Ledger>(
     let mut out = how.image(alloc, &A::unit())?;
     let mut walk = leaf.walk();
     for _at in 0..leaf.len() {
-        let Some((key, val)) = leaf.walk_next(alloc, &mut walk)? else {
+        let Some(entry) = leaf.walk_next(&mut walk) else {
             unreachable!()
         };
-        if range.ends_before(&key, steps) {
+        let key = entry.key();
+        if range.ends_before(key, steps) {
             return Ok(out);
         }
-        if range.begins_after(&key, steps) {
+        if range.begins_after(key, steps) {
             continue;
         }
-        let image = project_entry::<A, P>(alloc, &key, &val, how)?;
+        let image = project_entry::<A, P>(alloc, key, entry.val(), how)?;
         out = how.meet(alloc, out, image)?;
     }
     Ok(out)

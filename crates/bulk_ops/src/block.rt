@@ -1,8 +1,8 @@
 //! The reduction of a leaf, and of two sides around an entry.
-ghost use Rattle.std.specs.Prelude.{◌≡◌, IfOk};
+ghost use Rattle.std.specs.Prelude.{◌≡◌, ◌+◌, ◌<◌, ◌≤◌, IfOk, drop, length, take};
 ghost use Rattle.map_model.specs.Fold.{reduce};
 
-use aug_monoid::{Key, Leaf, NoMemory, Reduce, Share};
+use aug_monoid::{Key, Leaf, NoMemory, Reduce, Share, Walk};
 use std::alloc::Global;
 
 /// What two sides and the entry between them are reduced to.
@@ -21,6 +21,33 @@ pub(crate) fn meet_around<K, V, M: Reduce<K, V>>(
     how.meet(alloc, front, after)
 }
 
+/// What the next entries of a walk are reduced to, by halves, as outcomes may grow with what they are of.
+fn reduce_next<K: Key, V: Share, L: Leaf<K, V>, M: Reduce<K, V>>(
+    alloc: Global,
+    leaf: &L,
+    walk: &mut Walk,
+    count: u64,
+    how: &M,
+) -> Result<M::Out, NoMemory>
+    requires place { L.fits_walk leaf.now walk.old }
+    requires some { 0 < count }
+    requires inside { walk.old.index + count ≤ length (L.entries leaf.now) }
+    ensures value { IfOk result (λ out. out ≡ reduce (M.image_of how.now) (M.unit_of how.now) (M.met how.now) (take count (drop walk.old.index (L.entries leaf.now)))) }
+    ensures moved { IfOk result (λ _. walk.new.index ≡ walk.old.index + count) }
+    ensures place { L.fits_walk leaf.now walk.new }
+{
+    if count == 1 {
+        let Some(entry) = leaf.walk_next(walk) else {
+            unreachable!()
+        };
+        return how.of(alloc, entry.key(), entry.val());
+    }
+    let half = count / 2;
+    let front = reduce_next(alloc, leaf, walk, half, how)?;
+    let back = reduce_next(alloc, leaf, walk, count - half, how)?;
+    how.meet(alloc, front, back)
+}
+
 /// What the entries of a leaf are reduced to, in one walk over them.
 pub(crate) fn reduce_leaf<K: Key, V: Share, L: Leaf<K, V>, M: Reduce<K, V>>(
     alloc: Global,
@@ -29,14 +56,10 @@ pub(crate) fn reduce_leaf<K: Key, V: Share, L: Leaf<K, V>, M: Reduce<K, V>>(
 ) -> Result<M::Out, NoMemory>
     ensures { IfOk result (λ out. out ≡ reduce (M.image_of how.now) (M.unit_of how.now) (M.met how.now) (L.entries leaf.now)) }
 {
-    let mut total = how.unit();
-    let mut walk = leaf.walk();
-    for _at in 0..leaf.len() {
-        let Some((key, val)) = leaf.walk_next(alloc, &mut walk)? else {
-            unreachable!()
-        };
-        let image = how.of(alloc, &key, &val)?;
-        total = how.meet(alloc, total, image)?;
+    let count = leaf.len();
+    if count == 0 {
+        return Ok(how.unit());
     }
-    Ok(total)
+    let mut walk = leaf.walk();
+    reduce_next(alloc, leaf, &mut walk, count, how)
 }

@@ -40,8 +40,14 @@ impl<'a, A: Augment, L: Leaf<A::Key, A::Val>, S: BlockSize, W: Combination<A::Ke
 
     ghost extent = { λ _. entry_count };
 
+    // One side of an empty map is no work.
     fn size(&self, part: &(TreeOver<A, L, S>, TreeOver<A, L, S>)) -> u64 {
-        part.0.size() + part.1.size()
+        let first = part.0.size();
+        let second = part.1.size();
+        if first == 0 || second == 0 {
+            return 0;
+        }
+        first + second
     }
 
     fn open(

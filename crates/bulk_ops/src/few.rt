@@ -32,7 +32,7 @@ pub(crate) fn combine_lists<
     let _size = tree.size();
     let entries = entries_of(alloc, tree)?;
     let both = how.combine_slices(alloc, &entries, few)?;
-    tree_of(alloc, &both)
+    tree_of(alloc, both)
 }
 
 /// A tree combined with few entries. It goes down only where some of them are, cuts the slice at each node's key, and shares the

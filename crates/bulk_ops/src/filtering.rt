@@ -100,7 +100,7 @@ fn filter_small<A: Augment, L: Leaf<A::Key, A::Val>, S: BlockSize, T: Test<A::Ke
     let _size = tree.size();
     let entries = entries_of(alloc, tree)?;
     let kept = filtered_of(alloc, &entries, test)?;
-    tree_of(alloc, &kept)
+    tree_of(alloc, kept)
 }
 
 /// The entries that hold. Linear in the number of entries. `NoMemory` for want of memory alone.

@@ -8,7 +8,7 @@ ghost use Rattle.bulk_ops.specs.Answers.{IsAnswer, IsPutTogether, slice_entries,
 use crate::middle::join_around;
 use crate::small::MOST_ENTRIES;
 use crate::uncounted::planted;
-use aug_monoid::{Augment, Key, Leaf, NoMemory, Share, SyncAugment};
+use aug_monoid::{Augment, Key, Leaf, NoMemory, Share, SyncAugment, share_entry};
 use fork_join::{Cut, Divide, Gate, Opened, divide, divide_alone};
 use std::alloc::Global;
 use std::marker::{Send, Sync};
@@ -48,7 +48,7 @@ impl<'a, A: Augment, L: Leaf<A::Key, A::Val>, S: BlockSize> Divide<
     > {
         if part.len() > PIECE {
             if let Some((front, middle, back)) = halves::<A::Key, A::Val>(part) {
-                let entry = share_entry::<A::Key, A::Val>(alloc, middle)?;
+                let entry = share_entry::<A::Key, A::Val>(alloc, &middle.0, &middle.1)?;
                 return Ok(Opened::Split(front, Some(entry), back));
             }
         }
@@ -79,14 +79,6 @@ fn halves<'a, K: Key, V>(entries: &'a [(K, V)]) -> Option<(&'a [(K, V)], &'a (K,
     let (front, rest) = entries.split_at(entries.len() / 2);
     let (middle, back) = rest.split_first()?;
     Some((front, middle, back))
-}
-
-fn share_entry<K: Share, V: Share>(alloc: Global, entry: &(K, V)) -> Result<(K, V), NoMemory>
-    ensures { IfOk result (λ copy. copy ≡ entry.now) }
-{
-    let key = entry.0.share(alloc)?;
-    let val = entry.1.share(alloc)?;
-    Ok((key, val))
 }
 
 /// The map of entries whose keys rise, made by halves where the cut allows it, in time linear in their number. `NoMemory` for

@@ -3,7 +3,7 @@ ghost use Rattle.std.specs.Prelude.{◌≡◌, IfOk, [], if◌then◌else◌};
 ghost use Rattle.map_model.specs.Balance.{IsBlockSize};
 ghost use Rattle.map_model.specs.Entries.{IsIncreasing};
 
-use crate::uncounted::planted;
+use crate::uncounted::planted_owned;
 use aug_monoid::{Augment, Leaf, NoMemory};
 use std::alloc::Global;
 use tree_base::{BlockSize, TreeOver};
@@ -29,19 +29,19 @@ pub(crate) fn entries_of<A: Augment, L: Leaf<A::Key, A::Val>, S: BlockSize>(
     Ok(entries)
 }
 
-/// The tree of increasing entries, which may be more than a map can have.
+/// The tree of increasing entries that are handed over, which may be more than a map can have.
 pub(crate) fn tree_of<A: Augment, L: Leaf<A::Key, A::Val>, S: BlockSize>(
     alloc: Global,
-    entries: &[(A::Key, A::Val)],
+    entries: Vec<(A::Key, A::Val)>,
 ) -> Result<TreeOver<A, L, S>, NoMemory>
     requires block_size { IsBlockSize S.SIZE }
-    requires increasing { IsIncreasing A.Key.cmp entries.now }
-    ensures { IfOk result (λ tree. tree.entries ≡ entries.now) }
+    requires increasing { IsIncreasing A.Key.cmp entries.items }
+    ensures { IfOk result (λ tree. tree.entries ≡ entries.items) }
 {
     if entries.len() >= MOST_ENTRIES {
         return Err(NoMemory);
     }
-    planted(alloc, entries)
+    planted_owned(alloc, entries)
 }
 
 /// The tree itself, or the empty one.

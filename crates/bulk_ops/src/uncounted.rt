@@ -41,6 +41,36 @@ fn planted_counted<A: Augment, L: Leaf<A::Key, A::Val>, S: BlockSize, C: Ledger>
     TreeOver::from_increasing(alloc, entries, &mut steps)
 }
 
+/// The tree of increasing entries that are handed over.
+pub(crate) fn planted_owned<A: Augment, L: Leaf<A::Key, A::Val>, S: BlockSize>(
+    alloc: Global,
+    entries: Vec<(A::Key, A::Val)>,
+) -> Result<TreeOver<A, L, S>, NoMemory>
+    requires block_size { IsBlockSize S.SIZE }
+    requires increasing { IsIncreasing A.Key.cmp entries.items }
+    requires fits { length entries.items < 2 ^ 60 }
+    ensures { IfOk result (λ tree. tree.entries ≡ entries.items) }
+{
+    planted_owned_counted::<A, L, S, Brand>(alloc, entries, Blank::new(1))
+}
+
+fn planted_owned_counted<A: Augment, L: Leaf<A::Key, A::Val>, S: BlockSize, C: Ledger>(
+    alloc: Global,
+    entries: Vec<(A::Key, A::Val)>,
+    blank: Blank,
+) -> Result<TreeOver<A, L, S>, NoMemory>
+    requires block_size { IsBlockSize S.SIZE }
+    requires increasing { IsIncreasing A.Key.cmp entries.items }
+    requires fits { length entries.items < 2 ^ 60 }
+    requires name { blank.name ≡ C.name }
+    requires parts { blank.parts ≡ C.parts }
+    requires some { 0 < blank.parts }
+    ensures { IfOk result (λ tree. tree.entries ≡ entries.items) }
+{
+    let mut steps = Steps::<C>::start(blank);
+    TreeOver::from_owned(alloc, entries, &mut steps)
+}
+
 /// The tree of two trees and an entry between them.
 pub(crate) fn joined<A: Augment, L: Leaf<A::Key, A::Val>, S: BlockSize>(
     alloc: Global,

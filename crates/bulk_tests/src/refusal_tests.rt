@@ -52,7 +52,7 @@ impl Augment for OtherSums {
 
     ghost augs_never_refuse = { λ _. tt };
 
-    fn base(_key: &u64, val: &u64, _alloc: Global) -> Result<u64, NoMemory> {
+    fn base(_alloc: Global, _key: &u64, val: &u64) -> Result<u64, NoMemory> {
         Ok(*val)
     }
 
@@ -61,9 +61,9 @@ impl Augment for OtherSums {
     }
 
     fn combine<C: Ledger>(
+        _alloc: Global,
         a: &u64,
         b: &u64,
-        _alloc: Global,
         steps: &mut Steps<C>,
     ) -> Result<u64, NoMemory> {
         steps.tick();

@@ -40,12 +40,13 @@ pub(crate) fn encode<V: ValueCode>(alloc: Global, from: &[(u64, V)]) -> Result<G
 }
 
 /// The entries before a place.
-fn front<V: ValueCode>(alloc: Global, gaps: &Gaps, place: &Walk) -> Result<Gaps, NoMemory>
+pub(crate) fn front<V: ValueCode>(alloc: Global, gaps: &Gaps, at: u64) -> Result<Gaps, NoMemory>
     requires gaps { IsGaps V.fits_bytes V.bytes_of V.value_of gaps.now }
-    requires place { IsPlaceOf V.bytes_of (entries_in V.bytes_of V.value_of gaps.now) place.now }
+    requires inside { at ≤ gaps.now.len }
     ensures { IfOk result (λ part. IsGapsOf V.fits_bytes V.bytes_of part
-        (take place.now.index (entries_in V.bytes_of V.value_of gaps.now))) }
+        (take at (entries_in V.bytes_of V.value_of gaps.now))) }
 {
+    let place = place_at::<V>(gaps, at);
     let mut code = Vec::with_capacity(alloc, place.byte as usize)?;
     push_bytes(&mut code, &gaps.code[..place.byte as usize])?;
     Ok(Gaps {
@@ -56,7 +57,7 @@ fn front<V: ValueCode>(alloc: Global, gaps: &Gaps, place: &Walk) -> Result<Gaps,
 }
 
 /// The entries from a place on, of which there is one: only the first key is coded anew.
-fn back<V: ValueCode>(alloc: Global, gaps: &Gaps, place: &Walk) -> Result<Gaps, NoMemory>
+fn back_from<V: ValueCode>(alloc: Global, gaps: &Gaps, place: &Walk) -> Result<Gaps, NoMemory>
     requires gaps { IsGaps V.fits_bytes V.bytes_of V.value_of gaps.now }
     requires place { IsPlaceOf V.bytes_of (entries_in V.bytes_of V.value_of gaps.now) place.now }
     requires inside { place.now.index < gaps.now.len }
@@ -75,39 +76,22 @@ fn back<V: ValueCode>(alloc: Global, gaps: &Gaps, place: &Walk) -> Result<Gaps, 
     })
 }
 
-fn back_or_none<V: ValueCode>(alloc: Global, gaps: &Gaps, place: &Walk) -> Result<Gaps, NoMemory>
+/// The entries from a place on.
+pub(crate) fn back<V: ValueCode>(alloc: Global, gaps: &Gaps, at: u64) -> Result<Gaps, NoMemory>
     requires gaps { IsGaps V.fits_bytes V.bytes_of V.value_of gaps.now }
-    requires place { IsPlaceOf V.bytes_of (entries_in V.bytes_of V.value_of gaps.now) place.now }
+    requires inside { at ≤ gaps.now.len }
     ensures { IfOk result (λ part. IsGapsOf V.fits_bytes V.bytes_of part
-        (drop place.now.index (entries_in V.bytes_of V.value_of gaps.now))) }
+        (drop at (entries_in V.bytes_of V.value_of gaps.now))) }
 {
-    if place.index < gaps.len {
-        return back::<V>(alloc, gaps, place);
+    if at < gaps.len {
+        let place = place_at::<V>(gaps, at);
+        return back_from::<V>(alloc, gaps, &place);
     }
     Ok(Gaps {
         code: Vec::new(alloc),
         len: 0,
         last: 0,
     })
-}
-
-/// The first entries, and the others.
-pub(crate) fn cut<V: ValueCode>(
-    alloc: Global,
-    gaps: &Gaps,
-    at: u64,
-) -> Result<(Gaps, Gaps), NoMemory>
-    requires gaps { IsGaps V.fits_bytes V.bytes_of V.value_of gaps.now }
-    requires inside { at ≤ gaps.now.len }
-    ensures front { IfOk result (λ parts. IsGapsOf V.fits_bytes V.bytes_of parts.0
-        (take at (entries_in V.bytes_of V.value_of gaps.now))) }
-    ensures back { IfOk result (λ parts. IsGapsOf V.fits_bytes V.bytes_of parts.1
-        (drop at (entries_in V.bytes_of V.value_of gaps.now))) }
-{
-    let place = place_at::<V>(gaps, at);
-    let first = front::<V>(alloc, gaps, &place)?;
-    let others = back_or_none::<V>(alloc, gaps, &place)?;
-    Ok((first, others))
 }
 
 /// Appends the entries from a place on, which come after a key: only the first gap is coded anew.

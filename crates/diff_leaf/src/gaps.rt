@@ -60,6 +60,25 @@ pub(crate) fn entry_at<V: ValueCode>(gaps: &Gaps, place: &Walk) -> Found<V>
     Found { key, val, next }
 }
 
+/// The place behind the entry at a place. Of the entry it reads the key, and passes over the value.
+#[inline(always)]
+fn pass<V: ValueCode>(gaps: &Gaps, place: &Walk) -> Walk
+    requires gaps { IsGaps V.fits_bytes V.bytes_of V.value_of gaps.now }
+    requires place { IsPlaceOf V.bytes_of (entries_in V.bytes_of V.value_of gaps.now) place.now }
+    requires inside { place.now.index < gaps.now.len }
+    ensures entry { (val : V) × (slice_get (entries_in V.bytes_of V.value_of gaps.now) place.now.index ≡ Some (result.key, val)) }
+    ensures place { IsPlaceOf V.bytes_of (entries_in V.bytes_of V.value_of gaps.now) result }
+    ensures index { result.index ≡ place.now.index + 1 }
+{
+    let (gap, at) = number_at(&gaps.code, place.byte as usize);
+    let after = V::code_end(&gaps.code, at);
+    Walk {
+        index: place.index + 1,
+        byte: after as u64,
+        key: place.key + gap,
+    }
+}
+
 /// The place before the entry of an index.
 pub(crate) fn place_at<V: ValueCode>(gaps: &Gaps, index: u64) -> Walk
     requires gaps { IsGaps V.fits_bytes V.bytes_of V.value_of gaps.now }
@@ -82,7 +101,7 @@ pub(crate) fn place_from<V: ValueCode>(gaps: &Gaps, from: &Walk, index: u64) -> 
 {
     let mut place = *from;
     while place.index < index {
-        place = entry_at::<V>(gaps, &place).next;
+        place = pass::<V>(gaps, &place);
     }
     place
 }
@@ -109,9 +128,9 @@ pub(crate) fn seek_key<V: ValueCode, C: Ledger>(gaps: &Gaps, key: u64, steps: &m
 {
     let mut place = first_place::<V>(gaps);
     while place.index < gaps.len {
-        let found = entry_at::<V>(gaps, &place);
-        match found.key.order(&key, steps) {
-            Ordering::Less => place = found.next,
+        let next = pass::<V>(gaps, &place);
+        match next.key.order(&key, steps) {
+            Ordering::Less => place = next,
             Ordering::Equal => {
                 return Seek {
                     at: place.index,

@@ -1,11 +1,13 @@
 //! A block as the gaps between its keys.
-ghost use Rattle.std.specs.Prelude.{◌≡◌};
+ghost use Rattle.std.specs.Prelude.{◌≡◌, ◌≤◌, length, IfOk};
+ghost use Rattle.std.specs.Ordering.{nat_cmp};
+ghost use Rattle.map_model.specs.Entries.{IsIncreasing};
 ghost use Rattle.diff_leaf.specs.Code.{code};
 
-use crate::build::{concat, cut, encode, splice, without};
+use crate::build::{back, concat, encode, front, splice, without};
 use crate::gaps::{Gaps, entry_at, first_place, get_entry, seek_key};
 use crate::value_code::ValueCode;
-use aug_monoid::{Leaf, LeafMut, NoMemory, Seek, Steps, Walk};
+use aug_monoid::{Leaf, LeafMut, Lent, NoMemory, Seek, Steps, Walk};
 use std::alloc::Global;
 use std::marker::{Model, PhantomData};
 use std::sync::ledger::Ledger;
@@ -62,12 +64,27 @@ impl<V: ValueCode> Leaf<u64, V> for DiffLeaf<V> {
         })
     }
 
+    fn from_owned(alloc: Global, from: Vec<(u64, V)>) -> Result<DiffLeaf<V>, NoMemory>
+        requires increasing { IsIncreasing nat_cmp from.items }
+        requires short { length from.items ≤ 512 }
+        ensures { IfOk result (λ leaf. leaf ≡ from.items) }
+    {
+        let gaps = encode::<V>(alloc, &from)?;
+        Ok(DiffLeaf {
+            gaps,
+            values: PhantomData,
+        })
+    }
+
     fn len(&self) -> u64 {
         self.gaps.len
     }
 
-    fn get_at(&self, _alloc: Global, at: u64) -> Result<Option<(u64, V)>, NoMemory> {
-        Ok(get_entry::<V>(&self.gaps, at))
+    fn get_at(&self, at: u64) -> Option<Lent<'_, u64, V>> {
+        match get_entry::<V>(&self.gaps, at) {
+            Some((key, val)) => Some(Lent::Decoded(key, val)),
+            None => None,
+        }
     }
 
     fn seek<C: Ledger>(&self, key: &u64, steps: &mut Steps<C>) -> Seek {
@@ -78,26 +95,29 @@ impl<V: ValueCode> Leaf<u64, V> for DiffLeaf<V> {
         first_place::<V>(&self.gaps)
     }
 
-    fn walk_next(&self, _alloc: Global, walk: &mut Walk) -> Result<Option<(u64, V)>, NoMemory> {
+    fn walk_next(&self, walk: &mut Walk) -> Option<Lent<'_, u64, V>> {
         if walk.index >= self.gaps.len {
-            return Ok(None);
+            return None;
         }
         let found = entry_at::<V>(&self.gaps, walk);
         *walk = found.next;
-        Ok(Some((found.key, found.val)))
+        Some(Lent::Decoded(found.key, found.val))
     }
 
-    fn cut_at(&self, alloc: Global, at: u64) -> Result<(DiffLeaf<V>, DiffLeaf<V>), NoMemory> {
-        let (front, back) = cut::<V>(alloc, &self.gaps, at)?;
-        let front = DiffLeaf {
-            gaps: front,
+    fn front(&self, alloc: Global, at: u64) -> Result<DiffLeaf<V>, NoMemory> {
+        let gaps = front::<V>(alloc, &self.gaps, at)?;
+        Ok(DiffLeaf {
+            gaps,
             values: PhantomData,
-        };
-        let back = DiffLeaf {
-            gaps: back,
+        })
+    }
+
+    fn back(&self, alloc: Global, at: u64) -> Result<DiffLeaf<V>, NoMemory> {
+        let gaps = back::<V>(alloc, &self.gaps, at)?;
+        Ok(DiffLeaf {
+            gaps,
             values: PhantomData,
-        };
-        Ok((front, back))
+        })
     }
 
     fn concat3(

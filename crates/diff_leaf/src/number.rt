@@ -45,3 +45,16 @@ pub fn number_at(from: &[u8], at: usize) -> (u64, usize)
     }
     (value + from[place] as u64 * scale, place + 1)
 }
+
+/// The place after the number whose bytes stand at a place, which is not read.
+#[inline(always)]
+pub fn number_end(from: &[u8], at: usize) -> usize
+    requires { BeginsWith (λ n. n < 2 ^ 64) leb (drop at from.now) }
+    ensures { result ≡ at + length (leb (number_of (drop at from.now))) }
+{
+    let mut place = at;
+    while from[place] >= 128 {
+        place += 1;
+    }
+    place + 1
+}

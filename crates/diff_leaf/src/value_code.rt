@@ -3,7 +3,7 @@ ghost use Rattle.std.specs.Prelude.{◌≡◌, ℕ, ◌+◌, ◌<◌, ◌^◌, L
 ghost use Rattle.diff_leaf.specs.Leb.{leb, number_of, BeginsWith};
 ghost use Rattle.diff_leaf.specs.LebLaws.{number_of-leb};
 
-use crate::number::{number_at, push_number};
+use crate::number::{number_at, number_end, push_number};
 use aug_monoid::{NoMemory, Share};
 
 /// A value that is stored as bytes, and read back from them whatever bytes follow.
@@ -30,6 +30,13 @@ pub trait ValueCode: Share {
         ensures value { result.0 ≡ value_of (drop at from.now) }
         ensures after { result.1 ≡ at + length (bytes_of (value_of (drop at from.now))) };
 
+    /// The place after the value whose bytes stand at a place.
+    fn code_end(from: &[u8], at: usize) -> usize
+    where
+        Self: Sized,
+        requires { BeginsWith fits_bytes bytes_of (drop at from.now) }
+        ensures { result ≡ at + length (bytes_of (value_of (drop at from.now))) };
+
     ghost read_back: { (v : Self) (others : List ℕ) → fits_bytes v → value_of (bytes_of v ++ others) ≡ v };
 }
 
@@ -50,6 +57,10 @@ impl ValueCode for u64 {
     fn code_at(from: &[u8], at: usize) -> (u64, usize) {
         number_at(from, at)
     }
+
+    fn code_end(from: &[u8], at: usize) -> usize {
+        number_end(from, at)
+    }
 }
 
 impl ValueCode for () {
@@ -67,5 +78,9 @@ impl ValueCode for () {
 
     fn code_at(_from: &[u8], at: usize) -> ((), usize) {
         ((), at)
+    }
+
+    fn code_end(_from: &[u8], at: usize) -> usize {
+        at
     }
 }

@@ -29,12 +29,12 @@ pub(crate) fn walked<K: Key, V: Share, L: Leaf<K, V>>(
     let mut entries = Vec::new(alloc);
     let mut walk = leaf.walk();
     for _ in 0..leaf.len() {
-        if let Some(entry) = leaf.walk_next(alloc, &mut walk)? {
-            entries.push(entry)?;
+        if let Some(entry) = leaf.walk_next(&mut walk) {
+            entries.push(entry.into_entry(alloc)?)?;
         }
     }
-    if let Some(entry) = leaf.walk_next(alloc, &mut walk)? {
-        entries.push(entry)?;
+    if let Some(entry) = leaf.walk_next(&mut walk) {
+        entries.push(entry.into_entry(alloc)?)?;
     }
     Ok(entries)
 }

@@ -1,7 +1,7 @@
 //! The bytes of small blocks, worked out by hand, and such blocks through their trait.
 
 use crate::blocks::{seek_of, walked};
-use aug_monoid::{Leaf, LeafMut, NoMemory};
+use aug_monoid::{Leaf, LeafMut, NoMemory, owned};
 use diff_leaf::{DiffLeaf, leaf_crosses};
 
 #[test]
@@ -10,8 +10,8 @@ fn keys_without_values(rt: HostRuntime) -> Result<(), NoMemory> {
     let entries = [(0, ()), (127, ()), (128, ()), (300, ())];
     let leaf = DiffLeaf::<()>::from_entries(alloc, &entries)?;
     assert_eq!(rt; leaf.code(), [0x00, 0x7f, 0x01, 0xac, 0x01].as_slice());
-    assert!(rt; leaf.get_at(alloc, 3)? == Some((300, ())));
-    assert!(rt; leaf.get_at(alloc, 4)? == None);
+    assert!(rt; owned(alloc, leaf.get_at(3))? == Some((300, ())));
+    assert!(rt; owned(alloc, leaf.get_at(4))? == None);
     assert_eq!(rt; walked(alloc, &leaf)?.as_slice(), entries.as_slice());
     for (key, at, hit) in [
         (0, 0, true),
@@ -37,15 +37,17 @@ fn the_greatest_key(rt: HostRuntime) -> Result<(), NoMemory> {
 #[test]
 fn a_value_after_each_gap(rt: HostRuntime) -> Result<(), NoMemory> {
     let alloc = rt.alloc();
-    let leaf = DiffLeaf::<u64>::from_entries(alloc, &[(5, 300)])?;
+    let leaf = DiffLeaf::<u64>::from_owned(alloc, vec![in alloc; (5, 300)]?)?;
     assert_eq!(rt; leaf.code(), [0x05, 0xac, 0x02].as_slice());
-    let (front, back) = leaf.cut_at(alloc, 0)?;
+    let front = leaf.front(alloc, 0)?;
+    let back = leaf.back(alloc, 0)?;
     assert_eq!(rt; front.len(), 0);
     assert_eq!(rt; front.code().len(), 0);
-    assert!(rt; back.get_at(alloc, 0)? == Some((5, 300)));
+    assert!(rt; owned(alloc, back.get_at(0))? == Some((5, 300)));
     let whole = back.concat3(alloc, 7, 1, &front)?;
     assert_eq!(rt; whole.code(), [0x05, 0xac, 0x02, 0x02, 0x01].as_slice());
-    let (low, high) = whole.cut_at(alloc, 1)?;
+    let low = whole.front(alloc, 1)?;
+    let high = whole.back(alloc, 1)?;
     assert_eq!(rt; low.code(), leaf.code());
     assert_eq!(rt; high.code(), [0x07, 0x01].as_slice());
     let joined = low.concat3(alloc, 6, 2, &high)?;

@@ -42,8 +42,8 @@ fn counted_fold<A: Augment, C: Ledger>(
     let mut steps = Steps::<C>::start(blank);
     let mut fold = A::unit();
     for entry in entries {
-        let base = A::base(&entry.0, &entry.1, alloc)?;
-        fold = A::combine(&fold, &base, alloc, &mut steps)?;
+        let base = A::base(alloc, &entry.0, &entry.1)?;
+        fold = A::combine(alloc, &fold, &base, &mut steps)?;
     }
     Ok(fold)
 }

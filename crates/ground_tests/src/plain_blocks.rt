@@ -1,7 +1,7 @@
 //! Plain blocks of a few entries.
 
 use crate::blocks::{seek_of, walked};
-use aug_monoid::{Leaf, LeafMut, NoMemory, Pair64};
+use aug_monoid::{Leaf, LeafMut, NoMemory, Pair64, owned};
 use leaf_blocks::{PlainLeaf, leaf_crosses};
 
 #[test]
@@ -25,8 +25,8 @@ fn keys_are_found_at_their_places(rt: HostRuntime) -> Result<(), NoMemory> {
     }
     let none = PlainLeaf::<u64, u64>::from_entries(alloc, &[])?;
     assert_eq!(rt; seek_of(&none, &3), (0, false));
-    assert!(rt; leaf.get_at(alloc, 4)? == Some((10, 100)));
-    assert!(rt; leaf.get_at(alloc, 5)? == None);
+    assert!(rt; owned(alloc, leaf.get_at(4))? == Some((10, 100)));
+    assert!(rt; owned(alloc, leaf.get_at(5))? == None);
     Ok(())
 }
 
@@ -60,13 +60,14 @@ fn parts_are_put_together_again(rt: HostRuntime) -> Result<(), NoMemory> {
     let alloc = rt.alloc();
     let entries = [(1, 10), (2, 20), (3, 30)];
     let leaf = PlainLeaf::<u64, u64>::from_entries(alloc, &entries)?;
-    let (front, back) = leaf.cut_at(alloc, 2)?;
+    let front = leaf.front(alloc, 2)?;
+    let back = leaf.back(alloc, 2)?;
     assert_eq!(rt;
         walked(alloc, &front)?.as_slice(),
         [(1, 10), (2, 20)].as_slice()
     );
     assert_eq!(rt; walked(alloc, &back)?.as_slice(), [(3, 30)].as_slice());
-    let low = PlainLeaf::<u64, u64>::from_entries(alloc, &[(1, 10)])?;
+    let low = PlainLeaf::<u64, u64>::from_owned(alloc, vec![in alloc; (1, 10)]?)?;
     let high = PlainLeaf::<u64, u64>::from_entries(alloc, &[(7, 70), (9, 90)])?;
     let whole = low.concat3(alloc, 5, 50, &high)?;
     let joined = [(1, 10), (5, 50), (7, 70), (9, 90)];

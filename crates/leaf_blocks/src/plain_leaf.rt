@@ -1,9 +1,10 @@
 //! A block as a vector of entries.
-ghost use Rattle.std.specs.Prelude.{◌≤◌, length};
+ghost use Rattle.std.specs.Prelude.{◌≡◌, ◌≤◌, length, IfOk};
+ghost use Rattle.map_model.specs.Entries.{IsIncreasing};
 
-use crate::copying::{push_shares, share_entry, shares_of};
+use crate::copying::{push_shares, shares_of};
 use crate::seeking::seek_in;
-use aug_monoid::{Key, Leaf, LeafMut, NoMemory, Seek, Share, Steps, Walk};
+use aug_monoid::{Key, Leaf, LeafMut, Lent, NoMemory, Seek, Share, Steps, Walk};
 use std::alloc::Global;
 use std::marker::Model;
 use std::sync::ledger::Ledger;
@@ -44,14 +45,22 @@ impl<K: Key, V: Share> Leaf<K, V> for PlainLeaf<K, V> {
         Ok(PlainLeaf { entries })
     }
 
+    fn from_owned(_alloc: Global, from: Vec<(K, V)>) -> Result<PlainLeaf<K, V>, NoMemory>
+        requires increasing { IsIncreasing K.cmp from.items }
+        requires short { length from.items ≤ 512 }
+        ensures { IfOk result (λ leaf. leaf ≡ from.items) }
+    {
+        Ok(PlainLeaf { entries: from })
+    }
+
     fn len(&self) -> u64 {
         self.entries.len() as u64
     }
 
-    fn get_at(&self, alloc: Global, at: u64) -> Result<Option<(K, V)>, NoMemory> {
+    fn get_at(&self, at: u64) -> Option<Lent<'_, K, V>> {
         match self.entries.get(at as usize) {
-            Some(entry) => Ok(Some(share_entry(alloc, entry)?)),
-            None => Ok(None),
+            Some(entry) => Some(Lent::Kept(entry)),
+            None => None,
         }
     }
 
@@ -67,26 +76,25 @@ impl<K: Key, V: Share> Leaf<K, V> for PlainLeaf<K, V> {
         }
     }
 
-    fn walk_next(&self, alloc: Global, walk: &mut Walk) -> Result<Option<(K, V)>, NoMemory> {
+    fn walk_next(&self, walk: &mut Walk) -> Option<Lent<'_, K, V>> {
         match self.entries.get(walk.index as usize) {
             Some(entry) => {
-                let entry = share_entry(alloc, entry)?;
                 walk.index += 1;
-                Ok(Some(entry))
+                Some(Lent::Kept(entry))
             }
-            None => Ok(None),
+            None => None,
         }
     }
 
-    fn cut_at(
-        &self,
-        alloc: Global,
-        at: u64,
-    ) -> Result<(PlainLeaf<K, V>, PlainLeaf<K, V>), NoMemory> {
-        let (before, after) = self.entries.split_at(at as usize);
-        let front = shares_of(alloc, before)?;
-        let back = shares_of(alloc, after)?;
-        Ok((PlainLeaf { entries: front }, PlainLeaf { entries: back }))
+    fn front(&self, alloc: Global, at: u64) -> Result<PlainLeaf<K, V>, NoMemory> {
+        let entries = shares_of(alloc, &self.entries[..at as usize])?;
+        Ok(PlainLeaf { entries })
+    }
+
+    fn back(&self, alloc: Global, at: u64) -> Result<PlainLeaf<K, V>, NoMemory> {
+        let (_, after) = self.entries.split_at(at as usize);
+        let entries = shares_of(alloc, after)?;
+        Ok(PlainLeaf { entries })
     }
 
     fn concat3(

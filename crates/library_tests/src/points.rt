@@ -174,7 +174,7 @@ fn shared_row(alloc: Global) -> Result<Option<(Pair64, u64)>, NoMemory> {
         first: 4,
         second: 7,
     };
-    let rows = Places::base(&place, &8, alloc)?.share(alloc)?;
+    let rows = Places::base(alloc, &place, &8)?.share(alloc)?;
     rows.map().select(alloc, 0)
 }
 

@@ -79,7 +79,7 @@ impl Augment for Places {
 
     ghost augs_never_refuse = { λ refuses. absurd refuses };
 
-    fn base(key: &Pair64, val: &u64, alloc: Global) -> Result<Rows, NoMemory> {
+    fn base(alloc: Global, key: &Pair64, val: &u64) -> Result<Rows, NoMemory> {
         let map = MapOver::single(alloc, swapped(*key), *val)?;
         Ok(Rows { map })
     }
@@ -91,9 +91,9 @@ impl Augment for Places {
     }
 
     fn combine<C: Ledger>(
+        alloc: Global,
         a: &Rows,
         b: &Rows,
-        alloc: Global,
         steps: &mut Steps<C>,
     ) -> Result<Rows, NoMemory> {
         steps.tick();

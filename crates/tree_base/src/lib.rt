@@ -9,12 +9,14 @@
 mod build;
 mod cross;
 mod cut;
+mod folding;
 mod link;
 mod listing;
 mod look;
 mod tree;
 
-pub use build::{MOST_ENTRIES, fold_leaf};
+pub use build::MOST_ENTRIES;
 pub use cut::{Around, cut_around};
+pub use folding::fold_leaf;
 pub use look::{Look, LookOver};
 pub use tree::{Block, BlockSize, Node, Top, Tree, TreeOver, Width};

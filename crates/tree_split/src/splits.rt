@@ -1,5 +1,5 @@
 //! A map split at a key.
-ghost use Rattle.std.specs.Prelude.{◌≡◌, ◌+◌, ◌*◌, ◌≤◌, ◌∷◌, ◌++◌, IfOk, IsSome, None, Some, length};
+ghost use Rattle.std.specs.Prelude.{◌≡◌, ◌+◌, ◌*◌, ◌≤◌, ◌∷◌, ◌++◌, IfOk, IsSome, None, Some, drop, length, take};
 ghost use Rattle.map_model.specs.Balance.{IsBlockSize};
 ghost use Rattle.map_model.specs.Entries.{AllAbove, AllBelow, IsIncreasing, above, below, lookup};
 
@@ -65,14 +65,47 @@ fn split_between<A: Augment, L: Leaf<A::Key, A::Val>, S: BlockSize, C: Ledger>(
     ensures found { IfOk result (λ parts. parts.found ≡ None) }
     ensures above { IfOk result (λ parts. parts.above.entries ≡ above A.Key.cmp (L.entries leaf.now) key.now) }
 {
-    let (front, back) = leaf.cut_at(alloc, at)?;
-    let lower = TreeOver::from_leaf(alloc, front, steps)?;
-    let higher = TreeOver::from_leaf(alloc, back, steps)?;
+    let lower = front_tree(alloc, leaf, at, steps)?;
+    let higher = back_tree(alloc, leaf, at, steps)?;
     Ok(PartsOver {
         below: lower,
         found: None,
         above: higher,
     })
+}
+
+/// The tree of a block's entries before a place.
+fn front_tree<A: Augment, L: Leaf<A::Key, A::Val>, S: BlockSize, C: Ledger>(
+    alloc: Global,
+    leaf: &L,
+    at: u64,
+    steps: &mut Steps<C>,
+) -> Result<TreeOver<A, L, S>, NoMemory>
+    requires block_size { IsBlockSize S.SIZE }
+    requires increasing { IsIncreasing A.Key.cmp (L.entries leaf.now) }
+    requires short { length (L.entries leaf.now) ≤ 2 * S.SIZE }
+    requires inside { at ≤ length (L.entries leaf.now) }
+    ensures { IfOk result (λ tree. tree.entries ≡ take at (L.entries leaf.now)) }
+{
+    let front = leaf.front(alloc, at)?;
+    TreeOver::from_leaf(alloc, front, steps)
+}
+
+/// The tree of a block's entries from a place on.
+fn back_tree<A: Augment, L: Leaf<A::Key, A::Val>, S: BlockSize, C: Ledger>(
+    alloc: Global,
+    leaf: &L,
+    at: u64,
+    steps: &mut Steps<C>,
+) -> Result<TreeOver<A, L, S>, NoMemory>
+    requires block_size { IsBlockSize S.SIZE }
+    requires increasing { IsIncreasing A.Key.cmp (L.entries leaf.now) }
+    requires short { length (L.entries leaf.now) ≤ 2 * S.SIZE }
+    requires inside { at ≤ length (L.entries leaf.now) }
+    ensures { IfOk result (λ tree. tree.entries ≡ drop at (L.entries leaf.now)) }
+{
+    let back = leaf.back(alloc, at)?;
+    TreeOver::from_leaf(alloc, back, steps)
 }
 
 /// A block split at a key.

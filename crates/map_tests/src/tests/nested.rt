@@ -65,7 +65,7 @@ impl Augment for FirstPosting {
 
     ghost augs_never_refuse = { λ refuses. absurd refuses };
 
-    fn base(key: &u64, val: &u64, alloc: Global) -> Result<Posting, NoMemory> {
+    fn base(alloc: Global, key: &u64, val: &u64) -> Result<Posting, NoMemory> {
         let weights = if *val == 0 {
             MapOver::empty()
         } else {
@@ -81,9 +81,9 @@ impl Augment for FirstPosting {
     }
 
     fn combine<C: Ledger>(
+        alloc: Global,
         a: &Posting,
         b: &Posting,
-        alloc: Global,
         steps: &mut Steps<C>,
     ) -> Result<Posting, NoMemory> {
         steps.tick();

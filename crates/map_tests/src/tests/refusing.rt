@@ -43,7 +43,7 @@ impl Augment for NotNine {
 
     ghost augs_never_refuse = { λ refuses. absurd refuses };
 
-    fn base(_key: &u64, val: &u64, _alloc: Global) -> Result<u64, NoMemory> {
+    fn base(_alloc: Global, _key: &u64, val: &u64) -> Result<u64, NoMemory> {
         Ok(*val)
     }
 
@@ -52,9 +52,9 @@ impl Augment for NotNine {
     }
 
     fn combine<C: Ledger>(
+        _alloc: Global,
         a: &u64,
         b: &u64,
-        _alloc: Global,
         steps: &mut Steps<C>,
     ) -> Result<u64, NoMemory> {
         steps.tick();
@@ -75,12 +75,12 @@ fn refused_in<L: Leaf<u64, u64>, const B: usize, C: Ledger>(
     requires size { IsBlockSize B }
 {
     let mut map: Sums<L, B> = MapOver::empty();
-    for (key, val) in [(1, 3), (2, 4), (3, 5)] {
+    for (key, val) in [(1, 3), (2, 4), (4, 1), (3, 5)] {
         map = map.put(alloc, key, val, steps)?;
     }
     let nine = map.aug_range(alloc, &2, &3, steps).is_err();
     let seven = map.aug_range(alloc, &1, &2, steps)?;
-    let put = map.put(alloc, 1, 0, steps).is_err();
+    let put = map.put(alloc, 1, 5, steps).is_err();
     Ok((nine, seven, put, map.size()))
 }
 
@@ -107,9 +107,9 @@ fn refused<L: Leaf<u64, u64>>(alloc: Global) -> Result<(Refused, Refused), NoMem
 fn a_refused_fold_leaves_the_map(rt: HostRuntime) -> Result<(), Fail> {
     let alloc = rt.alloc();
     let plain = refused::<PlainLeaf<u64, u64>>(alloc)?;
-    assert_eq!(rt; plain.0, (true, 7, true, 3));
-    assert_eq!(rt; plain.1, (true, 7, true, 3));
+    assert_eq!(rt; plain.0, (true, 7, true, 4));
+    assert_eq!(rt; plain.1, (true, 7, true, 4));
     let coded = refused::<DiffLeaf<u64>>(alloc)?;
-    assert_eq!(rt; coded.1, (true, 7, true, 3));
+    assert_eq!(rt; coded.1, (true, 7, true, 4));
     Ok(())
 }

@@ -18,7 +18,7 @@ use tree_base::{BlockSize, TreeOver, Width};
 use tree_points::{del, get, put};
 use tree_split::{expose, split};
 
-/// Which of `get`, `put` and `del` are refused where shares are.
+/// Which of `get`, `put` and `del` are refused where shares of keys are: `get` shares no key.
 fn refused_points<S: BlockSize, C: Ledger>(
     alloc: Global,
     probe: &Arc<Probe>,
@@ -129,11 +129,11 @@ fn refused<S: BlockSize>(alloc: Global) -> Result<Refusals, NoMemory>
 #[test]
 fn a_refused_share_leaves_the_map(rt: HostRuntime) -> Result<(), Fail> {
     let nodes = refused::<Width<2>>(rt.alloc())?;
-    assert_eq!(rt; nodes.points, (true, true, true));
+    assert_eq!(rt; nodes.points, (false, true, true));
     assert_eq!(rt; nodes.wholes, (true, true, true));
     assert!(rt; nodes.is_unchanged);
     let block = refused::<Width<32>>(rt.alloc())?;
-    assert_eq!(rt; block.points, (true, true, true));
+    assert_eq!(rt; block.points, (false, true, true));
     assert_eq!(rt; block.joins, (true, true));
     assert_eq!(rt; block.wholes, (true, true, true));
     assert!(rt; block.is_unchanged);
@@ -171,7 +171,7 @@ impl Augment for CheckedSum {
 
     ghost augs_never_refuse = { λ _. tt };
 
-    fn base(_key: &u64, val: &u64, _alloc: Global) -> Result<u64, NoMemory> {
+    fn base(_alloc: Global, _key: &u64, val: &u64) -> Result<u64, NoMemory> {
         Ok(*val)
     }
 
@@ -180,9 +180,9 @@ impl Augment for CheckedSum {
     }
 
     fn combine<C: Ledger>(
+        _alloc: Global,
         a: &u64,
         b: &u64,
-        _alloc: Global,
         steps: &mut Steps<C>,
     ) -> Result<u64, NoMemory> {
         steps.tick();

@@ -1,5 +1,7 @@
 use Rattle.std.proofs.Common.{rules, ◌≡◌, ◌∷◌, [], ◌++◌, true, false, cond, take, Some, sym, ap, ◌∙◌}
 use Rattle.std.specs.List.{slice_get}
+use Rattle.std.specs.Option.{option_map}
+use Rattle.aug_monoid.specs.Lending.{entry_of}
 use Rattle.std.proofs.lemmas.List.{append-nil}
 use Rattle.map_model.specs.Fold.{aug_filter}
 use Rattle.aug_query.proofs.Walks.{filter_more}
@@ -9,9 +11,9 @@ pub loop-at-preserved-then-not-passes : goal.loop-at-preserved-then-not-passes
 loop-at-preserved-then-not-passes g c =
     let admits = g.T.AugTest.admits c.args.test.now in
     let entries = g.L.Leaf.entries c.args.leaf.now in
-    let e : g.row.A-Key.Denot × g.row.A-Val.Denot = (c.in-Some.key, c.in-Some.val) in
-    let entry : slice_get entries c.loop-at._at ≡ Some (c.in-Some.key, c.in-Some.val) = sym (rw c.loop-at.invariant.1 at c.in_ok-key.ensures.value) ∙ c.in-Some.is in
-    let fails : admits (g.A.Augment.base_of c.in-Some.key c.in-Some.val) ≡ false = sym (c.if-not-passes.ensures ∙ ap admits c.in_ok-base.ensures.value) in
+    let e : g.row.A-Key.Denot × g.row.A-Val.Denot = entry_of c.in-Some.entry in
+    let entry : slice_get entries c.loop-at._at ≡ Some (entry_of c.in-Some.entry) = sym (rw c.loop-at.invariant.1 at c.walk_next.ensures.value) ∙ ap (option_map entry_of) c.in-Some.is in
+    let fails : admits (g.A.Augment.base_of (entry_of c.in-Some.entry).0 (entry_of c.in-Some.entry).1) ≡ false = sym (c.if-not-passes.ensures ∙ ap admits (rw (c.key.ensures, c.val.ensures) at c.in_ok-base.ensures.value)) in
     let before = aug_filter g.A.Augment.base_of admits (take c.loop-at._at entries) in
     let more = filter_more entries c.loop-at._at e entry (λ d. admits (g.A.Augment.base_of d.0 d.1)) ∙ ap (λ b. before ++ cond b (e ∷ []) []) fails ∙ append-nil before in
     (c.loop-at.invariant.0 ∙ sym more, search rules, search rules)
@@ -20,9 +22,9 @@ pub loop-at-preserved : goal.loop-at-preserved
 loop-at-preserved g c =
     let admits = g.T.AugTest.admits c.args.test.now in
     let entries = g.L.Leaf.entries c.args.leaf.now in
-    let e : g.row.A-Key.Denot × g.row.A-Val.Denot = (c.in-Some.key, c.in-Some.val) in
-    let entry : slice_get entries c.loop-at._at ≡ Some (c.in-Some.key, c.in-Some.val) = sym (rw c.loop-at.invariant.1 at c.in_ok-key.ensures.value) ∙ c.in-Some.is in
-    let passes : admits (g.A.Augment.base_of c.in-Some.key c.in-Some.val) ≡ true = sym (c.if-not-passes.ensures ∙ ap admits c.in_ok-base.ensures.value) in
+    let e : g.row.A-Key.Denot × g.row.A-Val.Denot = entry_of c.in-Some.entry in
+    let entry : slice_get entries c.loop-at._at ≡ Some (entry_of c.in-Some.entry) = sym (rw c.loop-at.invariant.1 at c.walk_next.ensures.value) ∙ ap (option_map entry_of) c.in-Some.is in
+    let passes : admits (g.A.Augment.base_of (entry_of c.in-Some.entry).0 (entry_of c.in-Some.entry).1) ≡ true = sym (c.if-not-passes.ensures ∙ ap admits (rw (c.key.ensures, c.val.ensures) at c.in_ok-base.ensures.value)) in
     let before = aug_filter g.A.Augment.base_of admits (take c.loop-at._at entries) in
     let more = filter_more entries c.loop-at._at e entry (λ d. admits (g.A.Augment.base_of d.0 d.1)) ∙ ap (λ b. before ++ cond b (e ∷ []) []) passes in
-    (c.in_ok-push.ensures.items ∙ ap (λ m. m ++ e ∷ []) c.loop-at.invariant.0 ∙ sym more, search rules, search rules)
+    (rw c.in_ok-into_entry.ensures.value at c.in_ok-push.ensures.items ∙ ap (λ m. m ++ e ∷ []) c.loop-at.invariant.0 ∙ sym more, search rules, search rules)

@@ -12,13 +12,13 @@ returns-then-len g c =
     let whole = filter_whole p entries (sym (ap length c.in_ok-kept.ensures) ∙ omega arith) in
     IfOk-weaker c.share.result _ _ (λ x h. ap (λ y. y.entries) h ∙ c.requires.same ∙ sym whole) c.share.ensures.value
 
-pub from_increasing-requires-clause-increasing : goal.from_increasing-requires-clause-increasing
-from_increasing-requires-clause-increasing g c =
+pub from_owned-requires-clause-increasing : goal.from_owned-requires-clause-increasing
+from_owned-requires-clause-increasing g c =
     let p = λ (e : g.row.A-Key.Denot × g.row.A-Val.Denot). g.T.AugTest.admits c.args.test.now (g.A.Augment.base_of e.0 e.1) in
-    rw (c.deref.ensures.value, c.in_ok-kept.ensures) (IsIncreasing-filter g.A.Key.Ord.cmp p (g.L.Leaf.entries c.args.leaf.now) c.requires.increasing)
+    rw c.in_ok-kept.ensures (IsIncreasing-filter g.A.Key.Ord.cmp p (g.L.Leaf.entries c.args.leaf.now) c.requires.increasing)
 
-pub from_increasing-requires-clause-fits : goal.from_increasing-requires-clause-fits
-from_increasing-requires-clause-fits g c =
+pub from_owned-requires-clause-fits : goal.from_owned-requires-clause-fits
+from_owned-requires-clause-fits g c =
     let p = λ (e : g.row.A-Key.Denot × g.row.A-Val.Denot). g.T.AugTest.admits c.args.test.now (g.A.Augment.base_of e.0 e.1) in
     let few = length-filter_le p (g.L.Leaf.entries c.args.leaf.now) in
-    rw (c.deref.ensures.value, c.in_ok-kept.ensures) (omega (arith, few, c.requires.short, c.requires.block_size))
+    rw c.in_ok-kept.ensures (omega (arith, few, c.requires.short, c.requires.block_size))

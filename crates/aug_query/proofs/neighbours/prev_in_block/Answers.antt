@@ -8,4 +8,4 @@ pub returns-else-before-eq0-clause-value : goal.returns-else-before-eq0-clause-v
 returns-else-before-eq0-clause-value g c =
     let entries = g.L.Leaf.entries c.args.leaf.now in
     let before = prev_before g.met.K.Ord.total entries c.args.key.now c.requires (omega (arith, c.seek-before.ensures.at, c.if-before-eq0.false)) in
-    IfOk-weaker c.get_at.result _ _ (λ x h. h ∙ ap (λ at. slice_get entries (at - 1)) c.seek-before.ensures.at ∙ sym before) c.get_at.ensures.value
+    IfOk-weaker c.owned.result _ _ (λ x h. h ∙ c.get_at.ensures ∙ ap (λ at. slice_get entries (at - 1)) c.seek-before.ensures.at ∙ sym before) c.owned.ensures.value

@@ -24,18 +24,18 @@ returns-then-begins_after g t c =
     let part = ap (within g.A.Key.Ord.cmp c.args.span.range) node.entries_are ∙ within-after g.met.A.Key.Ord.total c.args.span.range c.in-Node.left.now.entries c.in-Node.key.now c.in-Node.val.now c.in-Node.right.now.entries node.increasing (sym c.begins_after.ensures.value ∙ c.if-begins_after.true) in
     IfOk-weaker c.keep_span-then-begins_after.result _ _ (λ x h. h ∙ sym part) c.keep_span-then-begins_after.ensures
 
-pub from_increasing-requires-clause-increasing : goal.from_increasing-requires-clause-increasing
-from_increasing-requires-clause-increasing g t c =
+pub from_owned-requires-clause-increasing : goal.from_owned-requires-clause-increasing
+from_owned-requires-clause-increasing g t c =
     let cmp = g.A.Key.Ord.cmp in
     let range = c.args.span.range in
-    rw (c.deref.ensures.value, c.in_ok-kept-in-Block.ensures) (IsIncreasing-filter cmp (λ e. in_range cmp range e.0) (g.L.Leaf.entries c.in-Block.leaf.now) c.in-Block.ensures.top.increasing)
+    rw c.in_ok-kept-in-Block.ensures (IsIncreasing-filter cmp (λ e. in_range cmp range e.0) (g.L.Leaf.entries c.in-Block.leaf.now) c.in-Block.ensures.top.increasing)
 
-pub from_increasing-requires-clause-fits : goal.from_increasing-requires-clause-fits
-from_increasing-requires-clause-fits g t c =
+pub from_owned-requires-clause-fits : goal.from_owned-requires-clause-fits
+from_owned-requires-clause-fits g t c =
     let cmp = g.A.Key.Ord.cmp in
     let range = c.args.span.range in
     let few = length-filter_le (λ e. in_range cmp range e.0) (g.L.Leaf.entries c.in-Block.leaf.now) in
-    rw (c.deref.ensures.value, c.in_ok-kept-in-Block.ensures) (omega (arith, few, c.in-Block.ensures.top.short, c.in-Block.ensures.lawful))
+    rw c.in_ok-kept-in-Block.ensures (omega (arith, few, c.in-Block.ensures.top.short, c.in-Block.ensures.lawful))
 
 pub join-requires-clause-below : goal.join-requires-clause-below
 join-requires-clause-below g t c =

@@ -1,25 +1,27 @@
 use Rattle.std.proofs.Common.{rules, ◌≡◌, ◌∷◌, [], ◌++◌, Some, sym, ap, ◌∙◌}
 use Rattle.std.specs.List.{slice_get}
+use Rattle.std.specs.Option.{option_map}
+use Rattle.aug_monoid.specs.Lending.{entry_of}
 use Rattle.aug_query.proofs.Walks.{within_more, within_same, within_ended}
 use Rattle.aug_query.proofs.parts.keep_block.Goals as goal
 
 pub returns-then-ends_before : goal.returns-then-ends_before
 returns-then-ends_before g c =
     let entries = g.L.Leaf.entries c.args.leaf.now in
-    let entry : slice_get entries c.loop-at._at ≡ Some (c.in-Some.key, c.in-Some.val) = sym (rw c.loop-at.invariant.1 at c.in_ok-key.ensures.value) ∙ c.in-Some.is in
-    c.loop-at.invariant.0 ∙ sym (within_ended g.met.K.Ord.total c.args.range.now entries c.loop-at._at c.in-Some.key c.in-Some.val entry c.requires (sym c.ends_before.ensures.value ∙ c.if-ends_before.true))
+    let entry : slice_get entries c.loop-at._at ≡ Some (entry_of c.in-Some.entry) = sym (rw c.loop-at.invariant.1 at c.walk_next.ensures.value) ∙ ap (option_map entry_of) c.in-Some.is in
+    c.loop-at.invariant.0 ∙ sym (within_ended g.met.K.Ord.total c.args.range.now entries c.loop-at._at (entry_of c.in-Some.entry).0 (entry_of c.in-Some.entry).1 entry c.requires (sym (rw c.key-key.ensures at c.ends_before.ensures.value) ∙ c.if-ends_before.true))
 
 pub loop-at-preserved-then-begins_after : goal.loop-at-preserved-then-begins_after
 loop-at-preserved-then-begins_after g c =
     let entries = g.L.Leaf.entries c.args.leaf.now in
-    let entry : slice_get entries c.loop-at._at ≡ Some (c.in-Some.key, c.in-Some.val) = sym (rw c.loop-at.invariant.1 at c.in_ok-key.ensures.value) ∙ c.in-Some.is in
-    let same = within_same g.met.K.Ord.total c.args.range.now entries c.loop-at._at c.in-Some.key c.in-Some.val entry c.requires (sym c.begins_after.ensures.value ∙ c.if-begins_after.true) in
+    let entry : slice_get entries c.loop-at._at ≡ Some (entry_of c.in-Some.entry) = sym (rw c.loop-at.invariant.1 at c.walk_next.ensures.value) ∙ ap (option_map entry_of) c.in-Some.is in
+    let same = within_same g.met.K.Ord.total c.args.range.now entries c.loop-at._at (entry_of c.in-Some.entry).0 (entry_of c.in-Some.entry).1 entry c.requires (sym (rw c.key-key.ensures at c.begins_after.ensures.value) ∙ c.if-begins_after.true) in
     (c.loop-at.invariant.0 ∙ sym same, search rules, search rules)
 
 pub loop-at-preserved : goal.loop-at-preserved
 loop-at-preserved g c =
     let entries = g.L.Leaf.entries c.args.leaf.now in
-    let e : g.row.K.Denot × g.row.V.Denot = (c.in-Some.key, c.in-Some.val) in
-    let entry : slice_get entries c.loop-at._at ≡ Some (c.in-Some.key, c.in-Some.val) = sym (rw c.loop-at.invariant.1 at c.in_ok-key.ensures.value) ∙ c.in-Some.is in
-    let more = within_more g.met.K.Ord.total c.args.range.now entries c.loop-at._at c.in-Some.key c.in-Some.val entry (sym c.ends_before.ensures.value ∙ c.if-ends_before.false) (sym c.begins_after.ensures.value ∙ c.if-begins_after.false) in
-    (c.in_ok-push.ensures.items ∙ ap (λ m. m ++ e ∷ []) c.loop-at.invariant.0 ∙ sym more, search rules, search rules)
+    let e : g.row.K.Denot × g.row.V.Denot = entry_of c.in-Some.entry in
+    let entry : slice_get entries c.loop-at._at ≡ Some (entry_of c.in-Some.entry) = sym (rw c.loop-at.invariant.1 at c.walk_next.ensures.value) ∙ ap (option_map entry_of) c.in-Some.is in
+    let more = within_more g.met.K.Ord.total c.args.range.now entries c.loop-at._at (entry_of c.in-Some.entry).0 (entry_of c.in-Some.entry).1 entry (sym (rw c.key-key.ensures at c.ends_before.ensures.value) ∙ c.if-ends_before.false) (sym (rw c.key-key.ensures at c.begins_after.ensures.value) ∙ c.if-begins_after.false) in
+    (rw c.in_ok-into_entry.ensures.value at c.in_ok-push.ensures.items ∙ ap (λ m. m ++ e ∷ []) c.loop-at.invariant.0 ∙ sym more, search rules, search rules)

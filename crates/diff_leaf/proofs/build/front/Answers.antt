@@ -5,8 +5,8 @@ use Rattle.diff_leaf.proofs.build.front.Goals as goal
 
 pub slice_bounds-push_bytes-end : goal.slice_bounds-push_bytes-end
 slice_bounds-push_bytes-end g c =
-    rw c.deref.ensures.value (sym (length-take-le _ _ (byte_within _ _ _ _ c.requires.gaps _ _ _ c.requires.place)))
+    rw c.deref.ensures.value (sym (length-take-le _ _ (byte_within _ _ _ _ c.requires.gaps _ _ _ c.place_at-place.ensures.place)))
 
 pub returns : goal.returns
 returns g c =
-    front_gaps _ _ _ _ c.requires.gaps _ _ _ c.requires.place _ (rw (c.in_ok-push_bytes.ensures, c.in_ok-code.ensures.items, c.deref.ensures.value) (grind arith)) refl refl
+    rw (← c.place_at-place.ensures.index) (front_gaps _ _ _ _ c.requires.gaps _ _ _ c.place_at-place.ensures.place _ (rw (c.in_ok-push_bytes.ensures, c.in_ok-code.ensures.items, c.deref.ensures.value) (grind arith)) refl refl)

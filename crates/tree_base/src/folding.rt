@@ -1,0 +1,55 @@
+//! The fold of a leaf.
+ghost use Rattle.std.specs.Prelude.{◌≡◌, ◌+◌, ◌<◌, ◌≤◌, IfOk, IsOk, length, take, drop};
+ghost use Rattle.map_model.specs.Fold.{fold_of};
+
+use aug_monoid::{Augment, Leaf, NoMemory, Steps, Walk};
+use std::alloc::Global;
+use std::sync::ledger::Ledger;
+
+/// The fold of the next entries of a walk, by halves: an entry takes part in O(log n) combinations of n entries, which counts where
+/// augmented values grow with what they are of.
+fn fold_next<A: Augment, L: Leaf<A::Key, A::Val>, C: Ledger>(
+    alloc: Global,
+    leaf: &L,
+    walk: &mut Walk,
+    count: u64,
+    steps: &mut Steps<C>,
+) -> Result<A::Aug, NoMemory>
+    requires place { L.fits_walk leaf.now walk.old }
+    requires some { 0 < count }
+    requires inside { walk.old.index + count ≤ length (L.entries leaf.now) }
+    ensures value { IfOk result (λ fold. fold ≡ fold_of A.base_of A.unit_of A.combined (take count (drop walk.old.index (L.entries leaf.now)))) }
+    ensures succeeds { A.never_refuses → IsOk result }
+    ensures moved { IfOk result (λ _. walk.new.index ≡ walk.old.index + count) }
+    ensures place { L.fits_walk leaf.now walk.new }
+    ensures cost { steps.new < steps.old + count }
+{
+    if count == 1 {
+        let Some(entry) = leaf.walk_next(walk) else {
+            unreachable!()
+        };
+        return A::base(alloc, entry.key(), entry.val());
+    }
+    let half = count / 2;
+    let front = fold_next::<A, L, C>(alloc, leaf, walk, half, steps)?;
+    let back = fold_next::<A, L, C>(alloc, leaf, walk, count - half, steps)?;
+    A::combine(alloc, &front, &back, steps)
+}
+
+/// The fold of a leaf's entries, in one walk over them.
+pub fn fold_leaf<A: Augment, L: Leaf<A::Key, A::Val>, C: Ledger>(
+    alloc: Global,
+    leaf: &L,
+    steps: &mut Steps<C>,
+) -> Result<A::Aug, NoMemory>
+    ensures value { IfOk result (λ fold. fold ≡ fold_of A.base_of A.unit_of A.combined (L.entries leaf.now)) }
+    ensures succeeds { A.never_refuses → IsOk result }
+    ensures cost { steps.new ≤ steps.old + length (L.entries leaf.now) }
+{
+    let count = leaf.len();
+    if count == 0 {
+        return Ok(A::unit());
+    }
+    let mut walk = leaf.walk();
+    fold_next::<A, L, C>(alloc, leaf, &mut walk, count, steps)
+}

@@ -1,0 +1,10 @@
+use Rattle.std.proofs.Common.{sym, subst, take, drop, take-append-drop}
+use Rattle.map_model.specs.Entries.{IsIncreasing}
+use Rattle.map_model.proofs.Keys.{IsIncreasing-back}
+use Rattle.tree_split.proofs.splits.back_tree.Goals as goal
+
+pub from_leaf-requires-clause-increasing : goal.from_leaf-requires-clause-increasing
+from_leaf-requires-clause-increasing g c =
+    let entries = g.L.Leaf.entries c.args.leaf.now in
+    let at = c.args.at in
+    rw c.in_ok-back.ensures (IsIncreasing-back g.A.Key.Ord.cmp (take at entries) (drop at entries) (subst (IsIncreasing g.A.Key.Ord.cmp) (sym (take-append-drop at entries)) c.requires.increasing))
