@@ -1,6 +1,7 @@
 //! The operations of `root_bench` in plain Rust: a root by `RwLock<Arc<..>>`, and a log by a `Vec` behind an `Arc`.
 //!
 //! `root_baseline snapshots READERS COUNT` has a writer that publishes versions while each reader takes COUNT snapshots.
+//! `root_baseline publishes READERS COUNT` has readers that take snapshots while a writer publishes COUNT versions.
 //! `root_baseline pushes SIZE` and `root_baseline gets SIZE` fill a log and read it whole.
 //! Each writes a checksum to standard output, and the nanoseconds that it took to standard error.
 use std::sync::atomic::{AtomicBool, Ordering};
@@ -59,6 +60,34 @@ fn snapshots(readers: u64, count: u64) {
     report(risen, start);
 }
 
+/// Publishes so many versions, and answers the number of the last one.
+fn publish_all(root: &RwLock<Arc<Version>>, count: u64) -> u64 {
+    for number in 1..=count {
+        let version = Arc::new(Version { number });
+        *root.write().expect("no reader or writer panics") = version;
+    }
+    root.read().expect("no reader or writer panics").number
+}
+
+fn publishes(readers: u64, count: u64) {
+    let root = RwLock::new(Arc::new(Version { number: 0 }));
+    let stop = AtomicBool::new(false);
+    let start = Instant::now();
+    let number = std::thread::scope(|scope| {
+        for _ in 0..readers {
+            scope.spawn(|| {
+                while !stop.load(Ordering::SeqCst) {
+                    read(&root, 1);
+                }
+            });
+        }
+        let number = publish_all(&root, count);
+        stop.store(true, Ordering::SeqCst);
+        number
+    });
+    report(number, start);
+}
+
 /// A log with one more item. The old one stays where it has another owner.
 fn pushed(mut log: Arc<Vec<u64>>, item: u64) -> Arc<Vec<u64>> {
     Arc::make_mut(&mut log).push(item);
@@ -84,6 +113,7 @@ fn main() {
     let size: u64 = words[2].parse().expect("a number");
     match words[1].as_str() {
         "snapshots" => snapshots(size, words[3].parse().expect("a count")),
+        "publishes" => publishes(size, words[3].parse().expect("a count")),
         "pushes" => {
             let start = Instant::now();
             report(filled(size).len() as u64, start);

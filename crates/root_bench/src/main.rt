@@ -2,7 +2,9 @@
 //! to standard output, which is the same in every run, and the nanoseconds that it took to standard error.
 #![tactic(auto)]
 
+mod ends;
 mod logs;
+mod publishes;
 mod snapshots;
 mod timed;
 mod total;
@@ -18,6 +20,9 @@ fn main(rt: HostRuntime) -> Result<()> {
     let timed = match (name.as_str(), count) {
         ("snapshots", Some(count)) => {
             snapshots::taken(&rt, rt.alloc(), size.parse()?, count.parse()?)?
+        }
+        ("publishes", Some(count)) => {
+            publishes::made(&rt, rt.alloc(), size.parse()?, count.parse()?)?
         }
         ("pushes", None) => logs::pushes(&rt, rt.alloc(), size.parse()?)?,
         ("gets", None) => logs::gets(&rt, rt.alloc(), size.parse()?)?,

@@ -1,12 +1,10 @@
 //! Readers that take snapshots while a writer publishes.
-ghost use Rattle.std.specs.Prelude.{◌≡◌, IfOk};
-ghost use Rattle.versions.specs.Prefix.{IsPrefix};
 
+use crate::ends::{End, ends_of, longer, sum_of};
 use crate::timed::Timed;
 use crate::total::Total;
-use anyhow::{Result, bail};
+use anyhow::Result;
 use aug_monoid::NoMemory;
-use fork_join::{Cut, FreeGate};
 use std::alloc::Global;
 use std::marker::Sync;
 use std::rt::Clock;
@@ -15,13 +13,7 @@ use std::sync::atomic::{AtomicU64, Ordering};
 use std::thread;
 use std::thread::Threads;
 use std::time::Instant;
-use version_root::{Batch, Entry, Reader, Version, Writer, start};
-
-#[derive(Drop)]
-enum End {
-    Reader(Reader<Total>),
-    Writer(Writer<Total>),
-}
+use version_root::{Reader, Writer};
 
 /// How many of the snapshots had no lower number than the one before.
 fn read<R: Wait>(
@@ -40,29 +32,6 @@ fn read<R: Wait>(
         last = number;
     }
     Ok(risen)
-}
-
-/// A batch of the number 1.
-fn batch_of_one(alloc: Global) -> Result<Batch<u64>, NoMemory> {
-    Batch::new(alloc, Vec::from_slice(alloc, &[1])?)
-}
-
-/// The writer's version with one more entry, which adds 1.
-fn longer<R: Threads + Sync>(
-    rt: &R,
-    alloc: Global,
-    writer: &Writer<Total>,
-) -> Result<Version<Total>, NoMemory>
-    ensures { IfOk result (λ version. (version.base ≡ writer.now.base) × IsPrefix writer.now.journal version.journal) }
-{
-    let entry = Entry {
-        caller: 0,
-        tag: 0,
-        batch: batch_of_one(alloc)?,
-    };
-    writer
-        .current()
-        .extend(rt, alloc, &FreeGate, Cut::new(1, 1024), &[entry])
 }
 
 /// Publishes one version after another as long as a reader is at work.
@@ -110,25 +79,13 @@ pub fn taken<R: Threads + Wait + Sync + Clock>(
     readers: u32,
     count: u64,
 ) -> Result<Timed> {
-    if readers < 1 || readers > 64 {
-        bail!("1 to 64 readers are wanted");
-    }
-    let (writer, all) = start(alloc, Total::new(0), readers)?;
-    let mut ends = Vec::new(alloc);
-    for reader in all {
-        ends.push(End::Reader(reader))?;
-    }
-    ends.push(End::Writer(writer))?;
+    let ends = ends_of(alloc, readers)?;
     let at_work = AtomicU64::new(readers as u64);
     let began = Instant::now(rt)?;
     let answers = thread::map_vec(rt, ends, &|end| run(rt, alloc, end, count, &at_work))?;
     let nanoseconds = began.elapsed(rt)?.as_nanos();
-    let mut checksum = 0u64;
-    for answer in answers {
-        checksum = checksum.saturating_add(answer?);
-    }
     Ok(Timed {
-        checksum,
+        checksum: sum_of(answers)?,
         nanoseconds,
     })
 }

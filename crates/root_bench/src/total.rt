@@ -1,13 +1,13 @@
 //! The state of the root that is timed.
 ghost use Rattle.std.specs.Prelude.{◌≡◌, fold};
-ghost use Rattle.versions.specs.History.{after};
 ghost use Rattle.root_bench.specs.Sums.{sum_up};
 
 use aug_monoid::{NoMemory, Share};
+use fork_join::{Cut, FreeGate, fork2};
 use std::alloc::Global;
 use std::marker::{Model, Sync};
 use std::thread::Threads;
-use version_root::{AtOnce, Batch, State};
+use version_root::{Batch, State};
 
 /// A number to which numbers are added.
 #[derive(Drop)]
@@ -42,47 +42,45 @@ impl Share for Total {
 impl State for Total {
     type Op = u64;
 
-    type Part = u64;
-
-    type Middle = ();
-
-    type Out = u64;
-
-    type Work = AtOnce;
-
     ghost step = { sum_up };
 
-    ghost completes = { λ state batches out. out ≡ after sum_up state batches };
-
-    fn prepare<R: Threads + Sync>(
+    fn change<R: Threads + Sync>(
         &self,
-        _rt: &R,
+        rt: &R,
         _alloc: Global,
+        cut: Cut,
         batches: &[Batch<u64>],
-    ) -> Result<(AtOnce, u64), NoMemory> {
+    ) -> Result<Total, NoMemory> {
         let mut total = self.total;
         for batch in batches {
-            total = with_all(total, batch.ops());
+            total = with_all(rt, cut, total, batch.ops());
         }
-        Ok((AtOnce, total))
-    }
-
-    fn complete(
-        &self,
-        _alloc: Global,
-        _batches: &[Batch<u64>],
-        out: u64,
-    ) -> Result<Total, NoMemory> {
-        Ok(Total::new(out))
+        Ok(Total::new(total))
     }
 }
 
-fn with_all(start: u64, ops: &[u64]) -> u64
-    ensures { result ≡ fold sum_up start ops.now }
+/// The total with all numbers added, which are taken in two halves where the cut allows it.
+fn with_all<R: Threads + Sync>(rt: &R, cut: Cut, total: u64, numbers: &[u64]) -> u64
+    ensures { result ≡ fold sum_up total numbers.now }
+{
+    let (front, back) = numbers.split_at(numbers.len() / 2);
+    let left = move |_cut: Cut| -> u64
+        ensures { result ≡ fold sum_up total front.entry.now }
+    { added(total, front) };
+    let right = move |_cut: Cut| -> u64
+        ensures { result ≡ fold sum_up 0 back.entry.now }
+    { added(0, back) };
+    let size = numbers.len() as u64;
+    let (first, second) = fork2(rt, &FreeGate, cut, size, left, right);
+    first.saturating_add(second)
+}
+
+fn added(start: u64, numbers: &[u64]) -> u64
+    ensures { result ≡ fold sum_up start numbers.now }
 {
     let mut total = start;
-    for op in ops {
-        total = total.saturating_add(*op);
+    for number in numbers {
+        total = total.saturating_add(*number);
     }
     total
 }

@@ -1,15 +1,15 @@
 //! A state of which copies can be refused or held up.
 ghost use Rattle.std.specs.Prelude.{◌≡◌, IfOk, fold};
-ghost use Rattle.versions.specs.History.{after};
 ghost use Rattle.serving_tests.specs.Sums.{sum_up};
 
 use aug_monoid::{NoMemory, Share};
+use fork_join::Cut;
 use std::alloc::Global;
 use std::marker::{Model, Sync};
 use std::sync::Arc;
 use std::sync::atomic::{AtomicU64, Ordering};
 use std::thread::Threads;
-use versions::{AtOnce, Batch, State};
+use versions::{Batch, State};
 
 /// Copies are made.
 pub(crate) const OPEN: u64 = 0;
@@ -72,38 +72,20 @@ impl Share for Guarded {
 impl State for Guarded {
     type Op = u64;
 
-    type Part = u64;
-
-    type Middle = ();
-
-    type Out = u64;
-
-    type Work = AtOnce;
-
     ghost step = { sum_up };
 
-    ghost completes = { λ state batches out. out ≡ after sum_up state batches };
-
-    fn prepare<R: Threads + Sync>(
+    fn change<R: Threads + Sync>(
         &self,
         _rt: &R,
         _alloc: Global,
+        _cut: Cut,
         batches: &[Batch<u64>],
-    ) -> Result<(AtOnce, u64), NoMemory> {
+    ) -> Result<Guarded, NoMemory> {
         let mut total = self.total;
         for batch in batches {
             total = with_all(total, batch.ops());
         }
-        Ok((AtOnce, total))
-    }
-
-    fn complete(
-        &self,
-        _alloc: Global,
-        _batches: &[Batch<u64>],
-        out: u64,
-    ) -> Result<Guarded, NoMemory> {
-        Ok(Guarded::new(Arc::try_clone(&self.door)?, out))
+        Ok(Guarded::new(Arc::try_clone(&self.door)?, total))
     }
 }
 

@@ -1,6 +1,6 @@
 //! A root over a total behind a door: the worked one, readers beside a writer, and refused copies.
 ghost use Rattle.std.specs.Prelude.{◌≡◌, IfOk};
-ghost use Rattle.versions.specs.Prefix.{IsPrefix};
+ghost use Rattle.version_root.specs.Public.{IsPrefix};
 
 use crate::guarded::{Guarded, HELD, OPEN, SHUT, TRAP};
 use crate::journals::{longer, told};

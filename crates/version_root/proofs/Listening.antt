@@ -1,5 +1,5 @@
 -- A seat after it took in a notice's, and looked at a word.
-use Rattle.std.proofs.Common.{◌≡◌, ℕ, Bool, true, false, List, [], ◌∷◌, Option, refl, sym, ◌∙◌, ap, subst, arith}
+use Rattle.std.proofs.Common.{◌≡◌, ◌≤◌, ℕ, Bool, true, false, List, [], ◌∷◌, Option, refl, sym, ◌∙◌, ap, subst, arith}
 use Rattle.std.specs.Prelude.{All, ◌==◌, if◌then◌else◌}
 use Rattle.atomic_table.specs.Seated.{TableId}
 use Rattle.version_root.specs.declared.view.View.{View}
@@ -10,7 +10,7 @@ use Rattle.versions.specs.History.{History}
 use Rattle.versions.specs.Prefix.{IsPrefix}
 use Rattle.version_root.specs.Root.{Listens, informed, seen_after}
 use Rattle.version_root.specs.Steps.{losing, after_look, posed, Sat, looked}
-use Rattle.version_root.specs.Seats.{IsReader, IsWriterSeat, IsTeller}
+use Rattle.version_root.specs.Seats.{IsReader, IsWriterSeat, IsTeller, lost_of}
 use Rattle.version_root.proofs.Publishing.{Place}
 
 look_number : (b : Bool) (t : Tries) (word : ℕ) → (if b then t else losing t word).number ≡ t.number
@@ -20,6 +20,10 @@ look_number false t word = refl
 look_turn : (b : Bool) (t : Tries) (word : ℕ) → (if b then t else losing t word).has_turn ≡ t.has_turn
 look_turn true t word = refl
 look_turn false t word = refl
+
+look_lost : (b : Bool) (t : Tries) (word : ℕ) → t.lost ≤ (if b then t else losing t word).lost
+look_lost true t word = omega arith
+look_lost false t word = omega arith
 
 pub first_older : {A : Type 0} (P : A → Type 0) (x y : A) → All P (x ∷ y ∷ []) → P x × P y
 first_older P x y all = (all 0 x (omega arith), all 1 x (omega arith))
@@ -70,6 +74,12 @@ module _ {S O : Type 0} (z : TableId) (base : S) (seat : Place S O) where
       own = q.own;
     }
 
+    pub reader_lost : (number stripe : ℕ) → IsReader z base number stripe seat → lost_of seat.me.0.role ≤ lost_of seat'.me.0.role
+    reader_lost number stripe q =
+        let before : lost_of seat.me.0.role ≡ q.tries.0.lost = ap lost_of q.tries.1 in
+        let now : lost_of seat'.me.0.role ≡ (if word == 0 then q.tries.0 else losing q.tries.0 word).lost = ap (λ (m : Sat S O). lost_of m.0.role) after ∙ ap (λ role. lost_of (after_look role word)) q.tries.1 in
+        let rises = look_lost (word == 0) q.tries.0 word in omega arith
+
     pub writer_looked : (held : ℕ) (carried : List (ℕ × Option (History S O))) → IsWriterSeat z base held carried seat → IsWriterSeat z base held carried seat'
     writer_looked held carried q = record {
       striped = q.striped;
@@ -78,6 +88,10 @@ module _ {S O : Type 0} (z : TableId) (base : S) (seat : Place S O) where
       carried_is = ap (λ (m : Sat S O). m.1) after ∙ q.carried_is;
       lead = (q.lead.0, ap (λ (m : Sat S O). m.0.role) after ∙ ap (λ role. after_look role word) q.lead.1, q.lead.2);
     }
+
+-- a notice that is joined in leaves the lost turns as they are
+pub lost_kept : {S O : Type 0} (m m' : Sat S O) (w : View S O) (n : ℕ) → m' ≡ (informed m.0 w, m.1) → lost_of m'.0.role ≤ n → lost_of m.0.role ≤ n
+lost_kept {S} {O} m m' w n joined h = subst (λ k. k ≤ n) (ap (λ (x : Sat S O). lost_of x.0.role) joined) h
 
 -- what was joined in is a beginning of what the seat has seen
 pub told : {S O : Type 0} (m m' m'' : Sat S O) (w : View S O) (role : Role) → m' ≡ (informed m.0 w, m.1) → m'' ≡ (posed m'.0 role m'.0.seen, m'.1) → All (λ list. IsPrefix list m'.0.seen) m'.0.older

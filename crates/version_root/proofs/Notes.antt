@@ -29,37 +29,6 @@ abbrev pub Root : Type 0 → Type 0 → Type 0
 Root S O = State (Option (History S O)) (View S O)
 
 module _ {S O : Type 0} (base : S) where
-  knows_of : (s : Root S O) (r : Ruled base s) (j : ℕ) (v : View S O) (role : Role) → role ≢ Spent → Fits r.owner base r.journal r.lead s.words j v role → Knows base r.journal v
-  knows_of s r j v Spent live f = absurd (live refl)
-  knows_of s r j v Notice live f = f
-  knows_of s r j v (Reader tries) live f = f.0
-  knows_of s r j v (Writer lead) live f = f.0
-
-  -- a notice joins the seats
-  noticed : (s : Root S O) (r : Ruled base s) (w : View S O) → Knows base r.journal w → Ruled base (record { words = s.words; homes = s.homes; views = s.views ++ record w { role = Notice } ∷ [] })
-  noticed s r w knows = record {
-    owner = r.owner;
-    journal = r.journal;
-    lead = r.lead;
-    some_stripe = r.some_stripe;
-    deep = r.deep;
-    led = (r.led.0, at_longer s.views _ (r.owner 1) r.led.0 r.led.1, r.led.2);
-    each_seat = λ j u e. ⊎_elim (λ t. r.each_seat j u t)
-        (λ t. subst (λ (z : View S O). Fits r.owner base r.journal r.lead s.words j z z.role) t.1 (record { base_is = knows.base_is; seen = knows.seen; older = knows.older }))
-        (at_snoc_place s.views _ u j e);
-    each_stripe = λ k h. let old = r.each_stripe k h in record {
-      free = old.free;
-      taken = λ ne. let was = old.taken ne in (was.0, at_longer s.views _ (r.owner (get_or s.words k 0)) was.0 was.1, was.2);
-    };
-  }
-
-  -- kind 1
-  pub tells : (id : ℕ) (v : View S O) → v.role ≢ Spent → Splits (Ruled base) id v v (notice_of v)
-  tells id v live s r at =
-      let knows = knows_of s r id v v.role live (r.each_seat id v at) in
-      subst (λ (views : List (View S O)). Ruled base (record { words = s.words; homes = s.homes; views = views ++ notice_of v ∷ [] })) (sym (set_again s.views id v at))
-      (noticed s r (notice_of v) (record { base_is = knows.base_is; seen = knows.seen; older = λ k d h. absurd (omega arith) }))
-
   informed_fits : (owner : ℕ → ℕ) (journal : List (Entry O)) (lead : Lead) (words : List ℕ) (id : ℕ) (v w : View S O) (role : Role) → Listens role
       → Fits owner base journal lead words id v role → Knows base journal w
       → Fits owner base journal lead words id (record { role = role; base = v.base; seen = seen_after role v.seen w.seen; older = v.seen ∷ w.seen ∷ [] }) role
@@ -79,12 +48,45 @@ module _ {S O : Type 0} (base : S) where
   informed_fits owner journal lead words id v w (Writer mine) listens f k =
       (record { base_is = f.0.base_is; seen = f.0.seen; older = both_older v.seen w.seen v.seen (prefix_refl v.seen) (subst (λ l. IsPrefix w.seen l) (sym f.1.seen_is) k.seen) }, f.1)
 
+module _ {S O : Type 0} {readers : ℕ} (base : S) where
+  knows_of : (s : Root S O) (r : Ruled base readers s) (j : ℕ) (v : View S O) (role : Role) → role ≢ Spent → Fits r.owner base r.journal r.lead s.words j v role → Knows base r.journal v
+  knows_of s r j v Spent live f = absurd (live refl)
+  knows_of s r j v Notice live f = f
+  knows_of s r j v (Reader tries) live f = f.0
+  knows_of s r j v (Writer lead) live f = f.0
+
+  -- a notice joins the seats
+  noticed : (s : Root S O) (r : Ruled base readers s) (w : View S O) → Knows base r.journal w → Ruled base readers (record { words = s.words; homes = s.homes; views = s.views ++ record w { role = Notice } ∷ [] })
+  noticed s r w knows = record {
+    owner = r.owner;
+    journal = r.journal;
+    lead = r.lead;
+    striped = r.striped;
+    some_stripe = r.some_stripe;
+    deep = r.deep;
+    led = (r.led.0, at_longer s.views _ (r.owner 1) r.led.0 r.led.1, r.led.2);
+    each_seat = λ j u e. ⊎_elim (λ t. r.each_seat j u t)
+        (λ t. subst (λ (z : View S O). Fits r.owner base r.journal r.lead s.words j z z.role) t.1 (record { base_is = knows.base_is; seen = knows.seen; older = knows.older }))
+        (at_snoc_place s.views _ u j e);
+    each_stripe = λ k h st. let old = r.each_stripe k h st in record {
+      free = old.free;
+      taken = λ ne. let was = old.taken ne in (was.0, at_longer s.views _ (r.owner (get_or s.words k 0)) was.0 was.1, was.2);
+    };
+  }
+
+  -- kind 1
+  pub tells : (id : ℕ) (v : View S O) → v.role ≢ Spent → Splits (Ruled base readers) id v v (notice_of v)
+  tells id v live s r at =
+      let knows = knows_of s r id v v.role live (r.each_seat id v at) in
+      subst (λ (views : List (View S O)). Ruled base readers (record { words = s.words; homes = s.homes; views = views ++ notice_of v ∷ [] })) (sym (set_again s.views id v at))
+      (noticed s r (notice_of v) (record { base_is = knows.base_is; seen = knows.seen; older = λ k d h. absurd (omega arith) }))
+
   -- kind 2
-  pub joins : (id : ℕ) (v : View S O) (other : ℕ) (w : View S O) → Listens v.role → w.role ≡ Notice → Joins (Ruled base) id v other w (informed v w) spent_view
+  pub joins : (id : ℕ) (v : View S O) (other : ℕ) (w : View S O) → Listens v.role → w.role ≡ Notice → Joins (Ruled base readers) id v other w (informed v w) spent_view
   joins id v other w listens note s r at apart at' =
       let there : get_elem? s.views other ≡ some w = sym (set_else s.views id other (informed v w) apart) ∙ at' in
       let told : Knows base r.journal w = subst (Fits r.owner base r.journal r.lead s.words other w) note (r.each_seat other w there) in
-      let first = reviewed base s r id v (informed v w) at (λ k m h. h) (λ h. h) (informed_fits r.owner r.journal r.lead s.words id v w v.role listens (r.each_seat id v at) told) in
+      let first = reviewed base s r id v (informed v w) at (λ k m h. h) (λ h. h) (informed_fits base r.owner r.journal r.lead s.words id v w v.role listens (r.each_seat id v at) told) in
       reviewed base (record { words = s.words; homes = s.homes; views = set s.views id (informed v w) }) first other w spent_view at'
       (λ k m h. absurd (subst (HasTurn (length s.words) k m) note h))
       (λ h. absurd (let e : Notice ≡ Writer first.lead = sym note ∙ h in cc))
@@ -103,7 +105,7 @@ owner_new owner new last = ap (λ b. either b last (owner new)) (eq-eqb new new 
 abbrev more : Lead → Lead
 more lead = record { readers = lead.readers + 1; held = lead.held }
 
-module _ {S O : Type 0} (base : S) (s : Root S O) (r : Ruled base s) (id : ℕ) (v : View S O) (mine : Lead) (is : v.role ≡ Writer mine) (at : get_elem? s.views id ≡ some v) where
+module _ {S O : Type 0} {readers : ℕ} (base : S) (s : Root S O) (r : Ruled base readers s) (id : ℕ) (v : View S O) (mine : Lead) (is : v.role ≡ Writer mine) (at : get_elem? s.views id ≡ some v) where
   abbrev new : ℕ
   new = mine.readers + 2
 
@@ -147,11 +149,12 @@ module _ {S O : Type 0} (base : S) (s : Root S O) (r : Ruled base s) (id : ℕ) 
       )
   old_fits j u (Writer lead) apart f = absurd (apart (sym f.1.own ∙ fits.1.own))
 
-  enlists_at : Ruled base (record { words = s.words; homes = s.homes; views = views' })
+  enlists_at : Ruled base readers (record { words = s.words; homes = s.homes; views = views' })
   enlists_at = record {
     owner = owner';
     journal = r.journal;
     lead = more mine;
+    striped = r.striped;
     some_stripe = r.some_stripe;
     deep = r.deep;
     led = (left, at_longer (set s.views id left) (right ∷ []) (owner' 1) left (ap (get_elem? (set s.views id left)) (one_is_old ∙ fits.1.own) ∙ set_at s.views id left v at), refl);
@@ -180,7 +183,7 @@ module _ {S O : Type 0} (base : S) (s : Root S O) (r : Ruled base s) (id : ℕ) 
           },
         ))
         (at_snoc_place (set s.views id left) right u j e);
-    each_stripe = λ k h. let old = r.each_stripe k h in record {
+    each_stripe = λ k h st. let old = r.each_stripe k h st in record {
       free = old.free;
       taken = λ ne. let was = old.taken ne in
           let word : ℕ = get_or s.words k 0 in
@@ -197,9 +200,9 @@ module _ {S O : Type 0} (base : S) (s : Root S O) (r : Ruled base s) (id : ℕ) 
   }
 
 -- kind 8
-pub enlists : {S O : Type 0} (base : S) (id : ℕ) (v : View S O) (mine : Lead) → v.role ≡ Writer mine → Splits (Ruled base) id v (enlisting v) (enlisted v)
-enlists {S} {O} base id v mine is s r at =
-    let P : Role → Type 0 = λ role. Ruled base (record {
+pub enlists : {S O : Type 0} {readers : ℕ} (base : S) (id : ℕ) (v : View S O) (mine : Lead) → v.role ≡ Writer mine → Splits (Ruled base readers) id v (enlisting v) (enlisted v)
+enlists {S} {O} {readers} base id v mine is s r at =
+    let P : Role → Type 0 = λ role. Ruled base readers (record {
       words = s.words;
       homes = s.homes;
       views = set s.views id (record { role = with_reader role; base = v.base; seen = v.seen; older = v.older })

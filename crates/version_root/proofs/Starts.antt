@@ -1,6 +1,6 @@
 -- A root's table at the start.
-use Rattle.std.proofs.Common.{◌≡◌, ℕ, zero, suc, ◌+◌, ◌<◌, List, [], ◌∷◌, length, map, get_or, replicate, Option, Some, refl, sym, ◌∙◌, ap, subst, arith}
-use Rattle.std.specs.Prelude.{All}
+use Rattle.std.proofs.Common.{◌≡◌, ℕ, zero, suc, ◌+◌, ◌*◌, ◌<◌, ◌≤◌, List, [], ◌∷◌, length, map, get_or, replicate, Option, Some, refl, sym, ◌∙◌, ap, subst, arith}
+use Rattle.std.specs.Prelude.{None, min, slice_get}
 use mathlib.Core.Option.{some, some-injective, some-ne-none}
 use lib.ListN.{get_elem?}
 use Rattle.atomic_table.specs.Table.{opening}
@@ -9,21 +9,22 @@ use Rattle.version_root.specs.declared.view.View.{View}
 use Rattle.version_root.specs.declared.view.Lead.{Lead}
 use Rattle.version_root.specs.declared.view.Role.TheVariants.{Writer}
 use Rattle.versions.specs.History.{History, history}
-use Rattle.version_root.specs.Root.{Fits, Ruled, opening_view, with_reader, readers_of, enlisting}
+use Rattle.version_root.specs.Root.{IsStripe, Fits, Ruled, opening_view, with_reader, readers_of, enlisting}
 use Rattle.version_root.specs.Steps.{Sat}
 use Rattle.version_root.specs.Seats.{IsFirstWriter}
 use Rattle.versions.proofs.Prefixes.{prefix_refl}
 use Rattle.version_root.proofs.Publishing.{Place}
+use Rattle.version_root.proofs.Turns.{some_same}
 
 module _ {A : Type 0} where
   length_mapped : {B : Type 0} (f : A → B) (xs : List A) → length (map f xs) ≡ length xs
   length_mapped f [] = refl
   length_mapped f (x ∷ xs) = ap suc (length_mapped f xs)
 
-  all_at : (xs : List A) (y : A) → All (λ x. x ≡ y) xs → (i : ℕ) → i < length xs → get_elem? (map some xs) i ≡ some (some y)
-  all_at [] y all i h = absurd (omega arith)
-  all_at (x ∷ xs) y all zero h = ap (λ z. some (some z)) (all 0 x (omega arith))
-  all_at (x ∷ xs) y all (suc i) h = all_at xs y (λ k d h'. all (suc k) d (omega arith)) i (omega arith)
+  at_slot : (xs : List A) (i : ℕ) (y : A) → slice_get xs i ≡ Some y → get_elem? (map some xs) i ≡ some (some y)
+  at_slot [] i y e = absurd (let z : None ≡ Some y = e in cc)
+  at_slot (x ∷ xs) zero y e = ap (λ z. some (some z)) (some_same x y e)
+  at_slot (x ∷ xs) (suc i) y e = at_slot xs i y e
 
 zeros : (n i : ℕ) → get_or (replicate {A = ℕ} n 0) i 0 ≡ 0
 zeros zero i = refl
@@ -43,20 +44,22 @@ module _ {S O : Type 0} (base : S) where
       (record { base_is = refl; seen = prefix_refl []; older = λ k d h. absurd (omega arith) }, record { own = refl; lead_is = refl; seen_is = refl; within = omega arith; turns = λ i h. absurd (omega arith) })
   first_fits words (suc j) v e = absurd (some-ne-none v (sym e))
 
-  pub opens : (n : ℕ) (words : List ℕ) (slots : List (Option (History S O))) → 0 < n → words ≡ replicate n 0 → length slots ≡ n → All (λ copy. copy ≡ Some (history base [])) slots
-      → Ruled base (opening words slots (opening_view base))
-  opens n words slots some_stripe words_are count all =
+  pub opens : (readers n : ℕ) (words : List ℕ) (slots : List (Option (History S O))) → n ≡ 8 * min readers 8 → 8 ≤ n → words ≡ replicate n 0 → length slots ≡ n
+      → ((i : ℕ) → i < n → IsStripe i → slice_get slots i ≡ Some (Some (history base [])))
+      → Ruled base readers (opening words slots (opening_view base))
+  opens readers n words slots few some_stripe words_are count all =
       let wide : length words ≡ n = ap length words_are ∙ count_zeros n in
       record {
         owner = λ number. 0;
         journal = [];
         lead = nobody;
+        striped = wide ∙ few;
         some_stripe = omega arith;
         deep = length_mapped some slots ∙ count ∙ sym wide;
         led = (opening_view base, refl, refl);
         each_seat = first_fits words;
-        each_stripe = λ i h. record {
-          free = λ e. all_at slots (Some (history base [])) all i (omega arith);
+        each_stripe = λ i h st. record {
+          free = λ e. at_slot slots i (Some (history base [])) (all i (omega arith) st);
           taken = λ ne. absurd (ne (ap (λ ws. get_or ws i 0) words_are ∙ zeros n i));
         };
       }

@@ -14,16 +14,16 @@ use Rattle.version_root.specs.declared.view.Tries.{Tries}
 use Rattle.version_root.specs.declared.view.Role.{Role}
 use Rattle.version_root.specs.declared.view.Role.TheVariants.{Reader, Writer}
 use Rattle.versions.specs.History.{History, history}
-use Rattle.version_root.specs.Root.{own_stripe, HasTurn, Knows, ReaderFits, Fits, Ruled}
+use Rattle.version_root.specs.Root.{IsStripe, own_stripe, HasTurn, Knows, ReaderFits, Fits, Ruled}
 use Rattle.version_root.specs.Steps.{with_turn, without_turn, losing, after_look, posed, Sat, tried, returned, looked}
 use Rattle.versions.proofs.Prefixes.{prefix_refl, prefixes_trans}
-use Rattle.version_root.proofs.Keeps.{set_at, one_at, stripe_within, placed, reviewed}
+use Rattle.version_root.proofs.Keeps.{set_at, one_at, stripe_within, stripe_is, placed, reviewed}
 use Rattle.version_root.proofs.Notes.{Root}
 
 pub some_same : {A : Type 0} (x y : A) → Some x ≡ Some y → x ≡ y
 some_same x y e = cc
 
-module _ {S O : Type 0} (base : S) (s : Root S O) (r : Ruled base s) (id : ℕ) (v : View S O) (t : Tries) (is : v.role ≡ Reader t) (at : get_elem? s.views id ≡ some v) where
+module _ {S O : Type 0} {readers : ℕ} (base : S) (s : Root S O) (r : Ruled base readers s) (id : ℕ) (v : View S O) (t : Tries) (is : v.role ≡ Reader t) (at : get_elem? s.views id ≡ some v) where
   pub reader_fits : Knows base r.journal v × ReaderFits r.owner r.journal r.lead s.words id v.seen t
   reader_fits = subst (Fits r.owner base r.journal r.lead s.words id v) is (r.each_seat id v at)
 
@@ -46,11 +46,11 @@ module _ {S O : Type 0} (base : S) (s : Root S O) (r : Ruled base s) (id : ℕ) 
     own' : i ≡ own_stripe (length (set s.words i t.number)) t.number
     own' = own ∙ ap (λ len. own_stripe len t.number) (sym (length-set s.words i t.number))
 
-    pub wins : Ruled base (record { words = set s.words i t.number; homes = set s.homes i none; views = set s.views id won })
+    pub wins : Ruled base readers (record { words = set s.words i t.number; homes = set s.homes i none; views = set s.views id won })
     wins =
         let fits = reader_fits in
-        placed base s r id i t.number none v won r.journal r.lead (prefix_refl r.journal) (λ k h ne. refl) (λ ne. absurd (ne free)) refl (λ ne. (refl, refl)) at
-        (λ k m ne h. let e : true ≡ false = sym (subst (HasTurn (length s.words) k m) is h).0 ∙ idle in absurd (let z : ⊥ = cc in z))
+        placed base s r id i t.number none v won r.journal r.lead (prefix_refl r.journal) (λ k h st ne. refl) (λ ne. absurd (ne free)) refl (λ ne. (refl, refl)) at
+        (λ k m ne st h. let e : true ≡ false = sym (subst (HasTurn (length s.words) k m) is h).0 ∙ idle in absurd (let z : ⊥ = cc in z))
         (λ e. absurd (not_leading e)) (
           record { base_is = fits.0.base_is; seen = prefix_refl r.journal; older = prefixes_trans fits.0.seen v.older fits.0.older },
           record {
@@ -84,11 +84,11 @@ module _ {S O : Type 0} (base : S) (s : Root S O) (r : Ruled base s) (id : ℕ) 
     held_is : get_or s.words i 0 ≡ t.number
     held_is = ap (λ k. get_or s.words k 0) own ∙ (reader_fits.1.turn has).0
 
-    pub rests : Ruled base (record { words = set s.words i 0; homes = set s.homes i back; views = set s.views id rested })
+    pub rests : Ruled base readers (record { words = set s.words i 0; homes = set s.homes i back; views = set s.views id rested })
     rests =
         let fits = reader_fits in
-        placed base s r id i 0 back v rested r.journal r.lead (prefix_refl r.journal) (λ k h ne. refl) (λ ne. ap r.owner held_is ∙ fits.1.own) refl (λ ne. (refl, refl)) at
-        (λ k m ne h. absurd (ne ((subst (HasTurn (length s.words) k m) is h).2 ∙ sym own)))
+        placed base s r id i 0 back v rested r.journal r.lead (prefix_refl r.journal) (λ k h st ne. refl) (λ ne. ap r.owner held_is ∙ fits.1.own) refl (λ ne. (refl, refl)) at
+        (λ k m ne st h. absurd (ne ((subst (HasTurn (length s.words) k m) is h).2 ∙ sym own)))
         (λ e. absurd (not_leading e)) (
           record { base_is = fits.0.base_is; seen = fits.0.seen; older = fits.0.older },
           record {
@@ -105,7 +105,7 @@ module _ {S O : Type 0} (base : S) (s : Root S O) (r : Ruled base s) (id : ℕ) 
         })
 
   -- the reader's view counts a lost turn
-  pub loses : (word : ℕ) → t.has_turn ≡ false → word ≢ 0 → word ≢ t.number → Ruled base (record { words = s.words; homes = s.homes; views = set s.views id (posed v (Reader (losing t word)) v.seen) })
+  pub loses : (word : ℕ) → t.has_turn ≡ false → word ≢ 0 → word ≢ t.number → Ruled base readers (record { words = s.words; homes = s.homes; views = set s.views id (posed v (Reader (losing t word)) v.seen) })
   loses word idle not_free not_mine =
       let fits = reader_fits in
       reviewed base s r id v (posed v (Reader (losing t word)) v.seen) at
@@ -122,30 +122,31 @@ module _ {S O : Type 0} (base : S) (s : Root S O) (r : Ruled base s) (id : ℕ) 
       )
 
   -- a reader without a turn finds another number than its own
-  pub not_own : (i : ℕ) → i < length s.words → t.has_turn ≡ false → get_or s.words i 0 ≢ t.number
-  not_own i h idle e =
+  pub not_own : (i : ℕ) → i < length s.words → IsStripe i → t.has_turn ≡ false → get_or s.words i 0 ≢ t.number
+  not_own i h st idle e =
       let fits = reader_fits in let low = fits.1.not_below in
-      let was = (r.each_stripe i h).taken (λ none. let z : t.number ≡ 0 = sym e ∙ none in omega arith) in
+      let was = (r.each_stripe i h st).taken (λ none. let z : t.number ≡ 0 = sym e ∙ none in omega arith) in
       let same : was.0 ≡ v = one_at s.views id was.0 v (ap (get_elem? s.views) (sym (ap r.owner e ∙ fits.1.own)) ∙ was.1) at in
       let turn : HasTurn (length s.words) i (get_or s.words i 0) (Reader t) = subst (HasTurn (length s.words) i (get_or s.words i 0)) (ap (λ (u : View S O). u.role) same ∙ is) was.2 in
       let z : true ≡ false = sym turn.0 ∙ idle in absurd (let z : ⊥ = cc in z)
 
-module _ {S O : Type 0} (base : S) (slots id : ℕ) (me : Sat S O) (t : Tries) (is : me.0.role ≡ Reader t) where
+module _ {S O : Type 0} {readers : ℕ} (base : S) (slots id : ℕ) (me : Sat S O) (t : Tries) (is : me.0.role ≡ Reader t) where
   -- kinds 3 and 4
   pub tries : (i : ℕ) → i ≡ own_stripe slots t.number → t.has_turn ≡ false
-      → Allows (Ruled base) slots id me i (λ n. either (eqb n 0) t.number n) (tried (step slots i 0 t.number none) me)
+      → Allows (Ruled base readers) slots id me i (λ n. either (eqb n 0) t.number n) (tried (step slots i 0 t.number none) me)
   tries i own idle s r deep at small =
       let len : slots ≡ length s.words = sym deep ∙ r.deep in
       let own' : i ≡ own_stripe (length s.words) t.number = own ∙ ap (λ l. own_stripe l t.number) len in
       let inside : i < length s.words = subst (λ k. k < length s.words) (sym own') (stripe_within (length s.words) t.number r.some_stripe) in
+      let stripe : IsStripe i = subst IsStripe (sym own') (stripe_is (length s.words) t.number) in
       let x : ℕ = get_or s.words i 0 in
       let fits = reader_fits base s r id me.0 t is at in
       dite (ℕ_discrete x 0)
       (λ free. (
         posed me.0 (Reader (with_turn t)) r.journal,
         takes i (Some (history base r.journal)),
-        (r.each_stripe i inside).free free,
-        subst (λ b. Ruled base (stepped s i (either b t.number x) id me.1 (posed me.0 (Reader (with_turn t)) r.journal) (takes i (Some (history base r.journal))))) (sym (eq-eqb x 0 free)) (wins base s r id me.0 t is at i own' free idle),
+        (r.each_stripe i inside stripe).free free,
+        subst (λ b. Ruled base readers (stepped s i (either b t.number x) id me.1 (posed me.0 (Reader (with_turn t)) r.journal) (takes i (Some (history base r.journal))))) (sym (eq-eqb x 0 free)) (wins base s r id me.0 t is at i own' free idle),
         λ t' b is' base_is.
             let e : Reader t ≡ Reader t' = sym is ∙ is' in
             let same : t ≡ t' = cc in
@@ -155,12 +156,12 @@ module _ {S O : Type 0} (base : S) (slots id : ℕ) (me : Sat S O) (t : Tries) (
             ),
       ))
       (λ taken.
-      let mine = not_own base s r id me.0 t is at i inside idle in (
+      let mine = not_own base s r id me.0 t is at i inside stripe idle in (
         posed me.0 (Reader (losing t x)) me.0.seen,
         keeps,
         tt,
-        subst (λ b. Ruled base (stepped s i (either b t.number x) id me.1 (posed me.0 (Reader (losing t x)) me.0.seen) keeps)) (sym (ne_eqb x 0 taken))
-            (subst (λ (words : List ℕ). Ruled base (record { words = words; homes = s.homes; views = set s.views id (posed me.0 (Reader (losing t x)) me.0.seen) })) (sym (set-get_or s.words i 0)) (loses base s r id me.0 t is at x idle taken mine)),
+        subst (λ b. Ruled base readers (stepped s i (either b t.number x) id me.1 (posed me.0 (Reader (losing t x)) me.0.seen) keeps)) (sym (ne_eqb x 0 taken))
+            (subst (λ (words : List ℕ). Ruled base readers (record { words = words; homes = s.homes; views = set s.views id (posed me.0 (Reader (losing t x)) me.0.seen) })) (sym (set-get_or s.words i 0)) (loses base s r id me.0 t is at x idle taken mine)),
         λ t' b is' base_is.
             let e : Reader t ≡ Reader t' = sym is ∙ is' in
             let same : t ≡ t' = cc in (
@@ -171,7 +172,7 @@ module _ {S O : Type 0} (base : S) (slots id : ℕ) (me : Sat S O) (t : Tries) (
 
   -- kind 5
   pub returns : (b : S) (i : ℕ) (others : List (ℕ × Option (History S O))) → i ≡ own_stripe slots t.number → t.has_turn ≡ true → me.0.base ≡ Some b → me.1 ≡ (i, Some (history b me.0.seen)) ∷ others
-      → Allows (Ruled base) slots id me i (λ _. 0) (λ _. returned (step slots i 0 0 none) me 0)
+      → Allows (Ruled base readers) slots id me i (λ _. 0) (λ _. returned (step slots i 0 0 none) me 0)
   returns b i others own has base_is carried s r deep at small =
       let len : slots ≡ length s.words = sym deep ∙ r.deep in
       let own' : i ≡ own_stripe (length s.words) t.number = own ∙ ap (λ l. own_stripe l t.number) len in
@@ -182,20 +183,21 @@ module _ {S O : Type 0} (base : S) (slots id : ℕ) (me : Sat S O) (t : Tries) (
         w,
         gives,
         tt,
-        subst (λ (c : List (ℕ × Option (History S O))). Ruled base (stepped s i 0 id c w gives)) (sym front) (rests base s r id me.0 t is at i own' has),
+        subst (λ (c : List (ℕ × Option (History S O))). Ruled base readers (stepped s i 0 id c w gives)) (sym front) (rests base s r id me.0 t is at i own' has),
         λ t' is'. let e : Reader t ≡ Reader t' = sym is ∙ is' in let same : t ≡ t' = cc in
             λ k. (posed me.0 (Reader (without_turn (same k))) me.0.seen, rest me.1),
       )
 
   -- kind 4 of a reader, at its own stripe
-  pub looks : (i : ℕ) → i ≡ own_stripe slots t.number → t.has_turn ≡ false → Allows (Ruled base) slots id me i (λ n. n) (looked (step slots i 0 0 none) me)
+  pub looks : (i : ℕ) → i ≡ own_stripe slots t.number → t.has_turn ≡ false → Allows (Ruled base readers) slots id me i (λ n. n) (looked (step slots i 0 0 none) me)
   looks i own idle s r deep at small =
       let len : slots ≡ length s.words = sym deep ∙ r.deep in
       let own' : i ≡ own_stripe (length s.words) t.number = own ∙ ap (λ l. own_stripe l t.number) len in
       let inside : i < length s.words = subst (λ k. k < length s.words) (sym own') (stripe_within (length s.words) t.number r.some_stripe) in
+      let stripe : IsStripe i = subst IsStripe (sym own') (stripe_is (length s.words) t.number) in
       let x : ℕ = get_or s.words i 0 in
       let fits = reader_fits base s r id me.0 t is at in
-      let P : List ℕ × Role → Type 0 = λ z. Ruled base (record { words = z.0; homes = s.homes; views = set s.views id (posed me.0 z.1 me.0.seen) }) in
+      let P : List ℕ × Role → Type 0 = λ z. Ruled base readers (record { words = z.0; homes = s.homes; views = set s.views id (posed me.0 z.1 me.0.seen) }) in
       let role_is : (b : _) → eqb x 0 ≡ b → after_look me.0.role x ≡ Reader (if b then t else losing t x) = λ b e. ap (λ role. after_look role x) is ∙ ap (λ c. Reader (if c then t else losing t x)) e in (
         posed me.0 (after_look me.0.role x) me.0.seen,
         keeps,
@@ -203,25 +205,25 @@ module _ {S O : Type 0} (base : S) (slots id : ℕ) (me : Sat S O) (t : Tries) (
         subst (λ words. P (words, after_look me.0.role x)) (sym (set-get_or s.words i 0))
             (dite (ℕ_discrete x 0)
             (λ free. subst (λ role. P (s.words, role)) (is ∙ sym (role_is true (eq-eqb x 0 free)))
-            (subst (λ (views : List (View S O)). Ruled base (record { words = s.words; homes = s.homes; views = views })) (sym (set_again s.views id me.0 at)) r))
-            (λ taken. subst (λ role. P (s.words, role)) (sym (role_is false (ne_eqb x 0 taken))) (loses base s r id me.0 t is at x idle taken (not_own base s r id me.0 t is at i inside idle)))),
+            (subst (λ (views : List (View S O)). Ruled base readers (record { words = s.words; homes = s.homes; views = views })) (sym (set_again s.views id me.0 at)) r))
+            (λ taken. subst (λ role. P (s.words, role)) (sym (role_is false (ne_eqb x 0 taken))) (loses base s r id me.0 t is at x idle taken (not_own base s r id me.0 t is at i inside stripe idle)))),
         (refl, fits.0.older),
       )
 
   pub tries_as : (number i : ℕ) → t.number ≡ number → i ≡ own_stripe slots number → t.has_turn ≡ false
-      → Allows (Ruled base) slots id me i (λ n. either (eqb n 0) number n) (tried (step slots i 0 number none) me)
+      → Allows (Ruled base readers) slots id me i (λ n. either (eqb n 0) number n) (tried (step slots i 0 number none) me)
   tries_as number i e own idle =
-      let P : ℕ → Type 0 = λ m. Allows (Ruled base) slots id me i (λ n. either (eqb n 0) m n) (tried (step slots i 0 m none) me) in
+      let P : ℕ → Type 0 = λ m. Allows (Ruled base readers) slots id me i (λ n. either (eqb n 0) m n) (tried (step slots i 0 m none) me) in
       subst P e (tries i (own ∙ ap (own_stripe slots) (sym e)) idle)
 
   pub returns_as : (number i : ℕ) → t.number ≡ number → i ≡ own_stripe slots number → t.has_turn ≡ true → me.0.base ≡ Some base → me.1 ≡ (i, Some (history base me.0.seen)) ∷ []
-      → Allows (Ruled base) slots id me i (λ _. 0) (λ _. returned (step slots i 0 0 none) me 0)
+      → Allows (Ruled base readers) slots id me i (λ _. 0) (λ _. returned (step slots i 0 0 none) me 0)
   returns_as number i e own has base_is carried = returns base i [] (own ∙ ap (own_stripe slots) (sym e)) has base_is carried
 
 -- where a list is one item, it is that item and the rest
 pub front_is : {S : Type 0} (xs : List (ℕ × S)) (x : ℕ × S) → xs ≡ x ∷ [] → xs ≡ x ∷ rest xs
 front_is xs x e = subst (λ ys. ys ≡ x ∷ rest ys) (sym e) refl
 
-module _ {S O : Type 0} (base : S) (slots id : ℕ) (me : Sat S O) (t : Tries) (is : me.0.role ≡ Reader t) where
-  pub looks_as : (number i : ℕ) → t.number ≡ number → i ≡ own_stripe slots number → t.has_turn ≡ false → Allows (Ruled base) slots id me i (λ n. n) (looked (step slots i 0 0 none) me)
+module _ {S O : Type 0} {readers : ℕ} (base : S) (slots id : ℕ) (me : Sat S O) (t : Tries) (is : me.0.role ≡ Reader t) where
+  pub looks_as : (number i : ℕ) → t.number ≡ number → i ≡ own_stripe slots number → t.has_turn ≡ false → Allows (Ruled base readers) slots id me i (λ n. n) (looked (step slots i 0 0 none) me)
   looks_as number i e own idle = looks base slots id me t is i (own ∙ ap (own_stripe slots) (sym e)) idle

@@ -1,5 +1,5 @@
 -- What a reader answers, and what it has seen then.
-use Rattle.std.specs.Prelude.{◌≡◌, ◌≢◌, ◌+◌, ◌<◌, ℕ, List, [], length, slice_get, Some}
+use Rattle.std.specs.Prelude.{◌≡◌, ◌≢◌, ◌+◌, ◌*◌, ◌<◌, ℕ, List, [], length, slice_get, Some, min}
 use Rattle.atomic_table.specs.Seated.{TableId}
 use Rattle.version_root.specs.declared.reader.Missed.{Missed}
 use Rattle.version_root.specs.declared.reader.Missed.TheVariants.{Busy, NoMemory}
@@ -34,9 +34,15 @@ module _ {S O : Type 0} where
 abbrev pub fresh_reader : {S O : Type 0} → TableId → S → ℕ → Reading S O
 fresh_reader root base k = record { root = root; base = base; number = k + 2; seen = []; lost = 0; found = 0 }
 
--- what both ends have seen is empty. The readers have the numbers from 2 on
+-- so many readers who have seen nothing yet, with the numbers from 2 on
+pub record AreFresh {S O : Type 0} (root : TableId) (base : S) (count : ℕ) (readers : List (Reading S O)) : Type 0 where
+  pub count_is : length readers ≡ count
+  pub each_reader : (k : ℕ) → k < count → slice_get readers k ≡ Some (fresh_reader root base k)
+
+-- The root has `min count 8` stripes, each with eight words of which one is used. What both ends have seen is empty. The readers have the numbers from 2 on
 pub record IsStart {S O : Type 0} (base : S) (count : ℕ) (writer : Writing S O) (readers : List (Reading S O)) : Type 0 where
   pub base_is : writer.base ≡ base
+  pub stripes_are : writer.root.words ≡ 8 * min count 8
   pub journal_is : writer.journal ≡ []
   pub count_is : length readers ≡ count
   pub each_reader : (k : ℕ) → k < count → slice_get readers k ≡ Some (fresh_reader writer.root base k)

@@ -1,6 +1,6 @@
 -- The rule of a root's table.
 -- A stripe's word is 0 while its turn is free, 1 while the writer has it, and a reader's number, from 2 on, while that reader has it.
-use Rattle.std.specs.Prelude.{◌≡◌, ◌≢◌, ℕ, ◌+◌, ◌-◌, ◌%◌, ◌<◌, ◌≤◌, true, false, List, [], ◌∷◌, length, slice_index, Option, Some, None, All}
+use Rattle.std.specs.Prelude.{◌≡◌, ◌≢◌, ℕ, ◌+◌, ◌-◌, ◌*◌, ◌/◌, ◌%◌, ◌<◌, ◌≤◌, true, false, List, [], ◌∷◌, length, slice_index, Option, Some, None, All, min}
 use mathlib.Core.Option.{some}
 use lib.ListN.{get_elem?}
 use Rattle.atomic_table.specs.Table.{State}
@@ -13,16 +13,21 @@ use Rattle.version_root.specs.declared.view.Role.TheVariants.{Spent, Notice, Rea
 use Rattle.versions.specs.History.{History, history}
 use Rattle.versions.specs.Prefix.{IsPrefix, longer}
 
--- the stripe of the reader with this number, of so many stripes
-abbrev pub own_stripe : ℕ → ℕ → ℕ
-own_stripe stripes number = (number - 2) % stripes
+-- A table of a root has as many slots as words. Of every eight the first is a stripe, so that no two stripes stand on one cache line:
+-- the others are not used. A stripe is named by the index of its word, which is that of its slot
+abbrev pub IsStripe : ℕ → Type 0
+IsStripe i = i % 8 ≡ 0
 
--- the role has the turn of the stripe i, of so many, where the word is `word`
+-- the stripe of the reader with this number, in a table of so many words
+abbrev pub own_stripe : ℕ → ℕ → ℕ
+own_stripe words number = 8 * ((number - 2) % (words / 8))
+
+-- the role has the turn of the stripe i, in a table of so many words, where the word is `word`
 abbrev pub HasTurn : ℕ → ℕ → ℕ → Role → Type 0
-HasTurn stripes i word Spent = ⊥
-HasTurn stripes i word Notice = ⊥
-HasTurn stripes i word (Reader tries) = (tries.has_turn ≡ true) × (tries.number ≡ word) × (i ≡ own_stripe stripes tries.number)
-HasTurn stripes i word (Writer lead) = (1 ≡ word) × (i < lead.held)
+HasTurn words i word Spent = ⊥
+HasTurn words i word Notice = ⊥
+HasTurn words i word (Reader tries) = (tries.has_turn ≡ true) × (tries.number ≡ word) × (i ≡ own_stripe words tries.number)
+HasTurn words i word (Writer lead) = (1 ≡ word) × (i < lead.held)
 
 module _ {O : Type 0} where
   pub record ReaderFits (owner : ℕ → ℕ) (journal : List (Entry O)) (lead : Lead) (words : List ℕ) (seat : ℕ) (seen : List (Entry O)) (tries : Tries) : Type 0 where
@@ -37,7 +42,7 @@ module _ {O : Type 0} where
     pub lead_is : mine ≡ lead
     pub seen_is : seen ≡ journal
     pub within : mine.held ≤ length words
-    pub turns : (i : ℕ) → i < mine.held → slice_index words i ≡ 1
+    pub turns : (i : ℕ) → i < mine.held → IsStripe i → slice_index words i ≡ 1
 
 module _ {S O : Type 0} where
   -- what each seat knows that is not spent
@@ -57,16 +62,17 @@ module _ {S O : Type 0} where
       pub free : slice_index words i ≡ 0 → get_elem? homes i ≡ some (some (Some (history base journal)))
       pub taken : slice_index words i ≢ 0 → (v : View S O) × (get_elem? views (owner (slice_index words i)) ≡ some v) × HasTurn (length words) i (slice_index words i) v.role
 
-  -- `owner` is the seat of the writer, whose number is 1, and of each reader by its number
-  pub record Ruled (base : S) (s : State (Option (History S O)) (View S O)) : Type 0 where
+  -- A root for so many readers has `min readers 8` stripes, each with eight words and slots, of which it uses the first. `owner` is the seat of the writer, whose number is 1, and of each reader by its number
+  pub record Ruled (base : S) (readers : ℕ) (s : State (Option (History S O)) (View S O)) : Type 0 where
     pub owner : ℕ → ℕ
     pub journal : List (Entry O)
     pub lead : Lead
-    pub some_stripe : 0 < length s.words
+    pub striped : length s.words ≡ 8 * min readers 8
+    pub some_stripe : 8 ≤ length s.words
     pub deep : length s.homes ≡ length s.words
     pub led : (v : View S O) × (get_elem? s.views (owner 1) ≡ some v) × (v.role ≡ Writer lead)
     pub each_seat : (j : ℕ) (v : View S O) → get_elem? s.views j ≡ some v → Fits owner base journal lead s.words j v v.role
-    pub each_stripe : (i : ℕ) → i < length s.words → StripeFits owner base journal lead s.words s.homes s.views i
+    pub each_stripe : (i : ℕ) → i < length s.words → IsStripe i → StripeFits owner base journal lead s.words s.homes s.views i
 
   abbrev pub opening_view : S → View S O
   opening_view base = record { role = Writer (record { readers = 0; held = 0 }); base = Some base; seen = []; older = [] }

@@ -1,5 +1,5 @@
 -- What the seats of a root hold, and what contracts see of them.
-use Rattle.std.specs.Prelude.{◌≡◌, ◌≢◌, ℕ, zero, suc, ◌<◌, Bool, true, false, List, [], ◌∷◌, Option, Some}
+use Rattle.std.specs.Prelude.{◌≡◌, ◌≢◌, ℕ, zero, suc, ◌*◌, ◌≤◌, Bool, true, false, List, [], ◌∷◌, Option, Some, min}
 use Rattle.atomic_table.specs.Seated.{TableId}
 use Rattle.atomic_table.specs.declared.shared.Seat.{Seat}
 use Rattle.versions.specs.declared.batch.Entry.{Entry}
@@ -9,7 +9,7 @@ use Rattle.version_root.specs.declared.view.Lead.{Lead}
 use Rattle.version_root.specs.declared.view.Role.{Role}
 use Rattle.version_root.specs.declared.view.Role.TheVariants.{Spent, Notice, Reader, Writer}
 use Rattle.versions.specs.History.{History, history}
-use Rattle.version_root.specs.Root.{own_stripe, readers_of}
+use Rattle.version_root.specs.Root.{IsStripe, own_stripe, readers_of}
 
 abbrev pub number_of : Role → ℕ
 number_of (Reader tries) = tries.number
@@ -23,10 +23,12 @@ abbrev pub found_of : Role → ℕ
 found_of (Reader tries) = tries.found
 found_of _ = 0
 
--- as many slots as words, and at least one
+-- as many slots as words, eight for each stripe, and one stripe at least and eight at most
 pub record IsStriped (z : TableId) : Type 0 where
   pub square : z.words ≡ z.slots
-  pub some_stripe : 0 < z.slots
+  pub spaced : IsStripe z.slots
+  pub some_stripe : 8 ≤ z.slots
+  pub few_stripes : z.slots ≤ 64
 
 module _ {S O : Type 0} where
   -- the seat is that of a reader with this number, of this root. It carries these slots
@@ -46,13 +48,13 @@ module _ {S O : Type 0} where
   abbrev pub HasVersion : TableId → S → ℕ → ℕ → Seat (Option (History S O)) (View S O) → Type 0
   HasVersion z base number stripe seat = IsReaderSeat z base number stripe true ((stripe, Some (history base seat.me.0.seen)) ∷ []) seat
 
--- so many slots, from the first on, each with the value x: the last one taken first
+-- the slots of so many stripes, from the first on, each with the value x: the last one taken first
 abbrev pub laid : {X : Type 0} → ℕ → X → List (ℕ × X)
 laid zero x = []
-laid (suc k) x = (k, x) ∷ laid k x
+laid (suc k) x = (8 * k, x) ∷ laid k x
 
 module _ {S O : Type 0} where
-  -- the seat is the writer's, with the turns of this many stripes. It carries these slots
+  -- the seat is the writer's, with the turns of the stripes below `held`. It carries these slots
   pub record IsWriterSeat (z : TableId) (base : S) (held : ℕ) (carried : List (ℕ × Option (History S O))) (seat : Seat (Option (History S O)) (View S O)) : Type 0 where
     pub striped : IsStriped z
     pub table_is : seat.table_id ≡ z
@@ -79,9 +81,10 @@ module _ {S O : Type 0} where
     pub readers_is : readers_of seat.me.0.role ≡ readers
     pub seen_is : seat.me.0.seen ≡ []
 
-  -- a table of a root, with the writer's seat
-  pub record IsOpen (z : TableId) (key base : S) (seat : Seat (Option (History S O)) (View S O)) : Type 0 where
+  -- a table of a root for so many readers, with the writer's seat
+  pub record IsOpen (z : TableId) (key base : S) (readers : ℕ) (seat : Seat (Option (History S O)) (View S O)) : Type 0 where
     pub key_is : key ≡ base
+    pub stripes_are : z.words ≡ 8 * min readers 8
     pub seat_is : IsFirstWriter z key 0 seat
 
 module _ {S O : Type 0} where

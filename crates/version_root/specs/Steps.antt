@@ -25,10 +25,10 @@ after_look (Reader t) word = Reader (if word == 0 then t else losing t word)
 after_look role word = role
 
 abbrev pub with_stripe : Lead → Lead
-with_stripe l = record { readers = l.readers; held = l.held + 1 }
+with_stripe l = record { readers = l.readers; held = l.held + 8 }
 
 abbrev pub less_stripe : Lead → Lead
-less_stripe l = record { readers = l.readers; held = l.held - 1 }
+less_stripe l = record { readers = l.readers; held = l.held - 8 }
 
 abbrev pub Sat : Type 0 → Type 0 → Type 0
 Sat S O = Me (Option (History S O)) (View S O)

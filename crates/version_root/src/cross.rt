@@ -1,13 +1,20 @@
-//! That the ends of a root cross threads.
-use crate::{Notice, Reader, Writer};
-use std::marker::Send;
+//! That the ends of a root cross threads, and what a reader answers.
+use crate::{Missed, Notice, Reader, Writer};
+use std::marker::{Send, Sync};
 use versions::SyncState;
 
 fn sends<T: Send>(_value: &T) {}
+
+fn crosses<T: Send + Sync>(_value: &T) {}
 
 /// Each end is sent to a thread of its own.
 pub(crate) fn ends_cross<S: SyncState>(writer: &Writer<S>, reader: &Reader<S>, notice: &Notice<S>) {
     sends(writer);
     sends(reader);
     sends(notice);
+}
+
+/// Why a reader took no version is sent to and shared among threads.
+pub(crate) fn missed_crosses(missed: &Missed) {
+    crosses(missed);
 }

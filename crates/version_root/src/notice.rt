@@ -17,7 +17,7 @@ impl<S: State> Model for Notice<S> {
 
     ghost Value = { Telling S S.Op };
 
-    ghost view = { λ a. telling (arc_value a.root).shared.table_id (arc_value a.root).shared.key.value a.seat.me.0 };
+    ghost view = { λ a. telling (arc_value a.root).shared.table_id (arc_value a.root).shared.key.base.value a.seat.me.0 };
 
     ghost invariant = { λ a. IsNotice (arc_value a.root).shared.table_id a.seat };
 }

@@ -1,5 +1,5 @@
 //! The end of a root that takes its versions.
-ghost use Rattle.std.specs.Prelude.{◌≡◌, ◌≢◌, ◌+◌, ◌<◌, IfOk, IfErr};
+ghost use Rattle.std.specs.Prelude.{◌≡◌, ◌≢◌, ◌+◌, ◌<◌, ◌≤◌, IfOk, IfErr};
 ghost use Rattle.std.specs.Arc.{arc_value};
 ghost use Rattle.versions.specs.History.{history};
 ghost use Rattle.versions.specs.Prefix.{IsPrefix, longer};
@@ -65,9 +65,9 @@ impl<S: State> Model for Reader<S> {
 
     ghost Value = { Reading S S.Op };
 
-    ghost view = { λ a. reading (arc_value a.root).shared.table_id (arc_value a.root).shared.key.value a.seat.me.0 };
+    ghost view = { λ a. reading (arc_value a.root).shared.table_id (arc_value a.root).shared.key.base.value a.seat.me.0 };
 
-    ghost invariant = { λ a. IsReader (arc_value a.root).shared.table_id (arc_value a.root).shared.key.value a.number a.stripe a.seat };
+    ghost invariant = { λ a. IsReader (arc_value a.root).shared.table_id (arc_value a.root).shared.key.base.value a.number a.stripe a.seat };
 }
 
 impl<S: State> Reader<S> {
@@ -100,6 +100,7 @@ impl<S: State> Reader<S> {
     pub fn snapshot<R: Wait>(&mut self, rt: &R, alloc: Global) -> Result<Version<S>, NoMemory>
         ensures same { Stays self.old self.new }
         ensures seen { IsPrefix self.old.seen self.new.seen }
+        ensures lost { self.old.lost ≤ self.new.lost }
         ensures ok { IfOk result (λ version. version ≡ history self.new.base self.new.seen) }
     {
         for _ in rt.forever() {
@@ -127,6 +128,7 @@ impl<S: State> Reader<S> {
         requires { notice.root ≡ self.old.root }
         ensures same { Stays self.old self.new }
         ensures seen { IsPrefix self.old.seen self.new.seen × IsPrefix notice.seen self.new.seen }
+        ensures lost { self.old.lost ≤ self.new.lost }
         ensures longer { self.new.seen ≡ longer self.old.seen notice.seen }
     {
         let Notice { root: _, seat } = notice;

@@ -28,19 +28,27 @@ pub struct Tries {
     pub has_turn: bool,
 }
 
-/// How many readers were made, and how many stripes' turns the writer has. These are the first ones.
+/// How many readers were made, and below which word the writer has the turn of every stripe.
 pub struct Lead {
     pub readers: u64,
     pub held: u64,
 }
 
-/// The rule of a root's table. Each stripe is a word, which is its turn, and a slot.
+/// What a root is opened with: its base, and for how many readers.
+#[derive(Drop)]
+pub struct Opening<S> {
+    pub base: Snapshot<S>,
+    pub readers: u32,
+}
+
+/// The rule of a root's table: `min(readers, 8)` stripes, each a word, which is its turn, and a slot, with seven words and slots
+/// between two stripes that are not used.
 pub struct RootRule;
 
-impl<S: State> TableRule<Option<Version<S>>, View<S, S::Op>, Snapshot<S>> for RootRule {
+impl<S: State> TableRule<Option<Version<S>>, View<S, S::Op>, Opening<S>> for RootRule {
     ghost use Rattle.version_root.specs.Root.{Ruled, opening_view};
 
-    ghost holds = { λ key. Ruled key.value };
+    ghost holds = { λ key. Ruled key.base.value key.readers };
 
-    ghost first = { λ key. opening_view key.value };
+    ghost first = { λ key. opening_view key.base.value };
 }

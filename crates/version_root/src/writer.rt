@@ -5,7 +5,7 @@ ghost use Rattle.versions.specs.History.{history};
 ghost use Rattle.versions.specs.Prefix.{IsPrefix};
 
 use crate::notice::Notice;
-use crate::steps::{Place, Root, claim_all, hand_all, take_in_first, tell};
+use crate::steps::{Place, Root, SPACING, claim_all, hand_all, take_in_first, tell};
 use aug_monoid::NoMemory;
 use std::alloc::Global;
 use std::marker::Model;
@@ -38,13 +38,13 @@ impl<S: State> Model for Writer<S> {
 
     ghost Value = { Writing S S.Op };
 
-    ghost view = { λ a. writing (arc_value a.root).shared.table_id (arc_value a.root).shared.key.value a.seat.me.0 };
+    ghost view = { λ a. writing (arc_value a.root).shared.table_id (arc_value a.root).shared.key.base.value a.seat.me.0 };
 
-    ghost invariant = { λ a. IsWriter (arc_value a.root).shared.table_id (arc_value a.root).shared.key.value a.current a.seat };
+    ghost invariant = { λ a. IsWriter (arc_value a.root).shared.table_id (arc_value a.root).shared.key.base.value a.current a.seat };
 }
 
 /// So many copies of the version, each with parts of its own, so that readers of different stripes write to no place in common.
-pub(crate) fn copies_of<S: State>(
+fn copies_of<S: State>(
     alloc: Global,
     version: &Version<S>,
     count: usize,
@@ -80,7 +80,7 @@ impl<S: State> Writer<S> {
         ensures err { OnErr result (self.new ≡ self.old) }
     {
         let count = self.root.slot_count();
-        let copies = copies_of(alloc, &version, count)?;
+        let copies = copies_of(alloc, &version, count / SPACING)?;
         claim_all(rt, &self.root.shared, &mut self.seat, copies);
         hand_all(&self.root.shared, &mut self.seat, count);
         self.current = version;

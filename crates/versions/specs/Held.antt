@@ -4,8 +4,8 @@ use Rattle.versions.specs.History.{History}
 use Rattle.versions.specs.declared.version.Held.{Held}
 use Rattle.versions.specs.declared.version.Held.TheVariants.{Own, Shared}
 
-module _ {S Op Part Middle Out Work : Type 0} where
+module _ {S Op : Type 0} where
   -- what its parts are seen as, wherever they stand
-  abbrev pub parts_of : Held S Op Part Middle Out Work → History S Op
+  abbrev pub parts_of : Held S Op → History S Op
   parts_of (Own parts) = parts
   parts_of (Shared parts) = arc_value parts

@@ -1,6 +1,8 @@
-//! That versions cross threads.
+//! That versions and what they consist of cross threads.
+use crate::batch::{Batch, Entry};
 use crate::state::SyncState;
 use crate::version::Version;
+use aug_monoid::Share;
 use std::marker::{Send, Sync};
 
 fn crosses<T: Send + Sync>(_value: &T) {}
@@ -8,4 +10,10 @@ fn crosses<T: Send + Sync>(_value: &T) {}
 /// A version is sent to and shared among threads.
 pub(crate) fn version_crosses<S: SyncState>(version: &Version<S>) {
     crosses(version);
+}
+
+/// So are batches and entries, with operations that are.
+pub(crate) fn entry_crosses<O: Share + Send + Sync>(batch: &Batch<O>, entry: &Entry<O>) {
+    crosses(batch);
+    crosses(entry);
 }

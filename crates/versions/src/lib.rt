@@ -7,5 +7,5 @@ mod state;
 mod version;
 
 pub use batch::{Batch, Entry};
-pub use state::{AtOnce, State, SyncState};
+pub use state::{State, SyncState};
 pub use version::Version;

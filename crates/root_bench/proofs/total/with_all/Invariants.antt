@@ -1,7 +1,0 @@
-use Rattle.std.proofs.Common.{◌≡◌, take}
-use Rattle.std.specs.Prelude.{fold}
-use Rattle.root_bench.specs.Sums.{sum_up}
-use Rattle.root_bench.proofs.total.with_all.Given as goal
-
-abbrev pub invariant-loop-op : goal.invariant-loop-op
-invariant-loop-op l = l.total ≡ fold sum_up l.start (take l.op-index l.ops)
