@@ -8,9 +8,15 @@ use rtrb::Consumer;
 use std::marker::Model;
 
 /// The receiving end, seen as its lane and the list of all items received.
-#[derive(Drop)]
 pub struct Intake<T> {
     pub(crate) ring: Consumer<T>,
+}
+
+impl<T: Drop> Drop for Intake<T> {
+    fn drop(self) {
+        let Intake { ring } = self;
+        drop(ring);
+    }
 }
 
 impl<T> Model for Intake<T> {
