@@ -1,0 +1,5 @@
+pub mod Taking
+pub mod Heard
+pub mod Sums
+pub mod Rounds
+pub mod Opened

@@ -1,0 +1,5 @@
+pub mod Journal
+pub mod Keeping
+pub mod Calling
+pub mod Hearing
+pub mod Round
