@@ -1,0 +1,16 @@
+//! Sequences and their cursors cross threads.
+use crate::cursor::CursorOver;
+use crate::seq::SeqOver;
+use seq_core::{BlockSize, SyncFold};
+use std::marker::{Send, Sync};
+
+fn crosses<T: Send + Sync>(_value: &T) {}
+
+/// A sequence and its cursors are sent to and shared among threads.
+pub fn seq_crosses<F: SyncFold, S: BlockSize + Send + Sync>(
+    seq: &SeqOver<F, S>,
+    cursor: &CursorOver<'_, F, S>,
+) {
+    crosses(seq);
+    crosses(cursor);
+}

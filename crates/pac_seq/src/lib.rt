@@ -1,0 +1,20 @@
+//! Persistent sequences by place, each with the sum of its items.
+//!
+//! A `Seq` is a list of items. Appends, cuts and changes of one item copy one path and at most two blocks of the tree that a
+//! sequence is kept as, so that old sequences stay as they are, and what old and new ones have in common is kept once. What the
+//! items of any run sum up to is found from stored sums. `Fold` says what a sum is.
+#![tactic(auto)]
+
+mod cross;
+mod cursor;
+mod parts;
+mod places;
+mod planting;
+mod reducing;
+mod reversing;
+mod seq;
+
+pub use cross::seq_crosses;
+pub use cursor::{Cursor, CursorOver};
+pub use seq::{Seq, SeqOver};
+pub use seq_core::{BlockSize, Ends, Fold, SumTop, SyncFold, Width};

@@ -1,0 +1,125 @@
+//! Single items by their places.
+ghost use Rattle.std.specs.Prelude.{◌≡◌, ◌*◌, ◌<◌, ◌≤◌, ◌↔◌, Some, drop, length, slice_get, slice_set, IfOk, IsNone};
+ghost use Rattle.map_model.specs.Balance.{IsBlockSize};
+ghost use Rattle.pac_seq.specs.Seats.{IsFront, items_at};
+
+use crate::seq::SeqOver;
+use aug_monoid::NoMemory;
+use seq_core::{BlockSize, Fold, Look, Part, SeqTree, copy_items, join, share_item};
+use std::alloc::Global;
+
+/// Where an item stands: first in what is left of a block, or between the sides of a node.
+#[derive(Drop)]
+pub(crate) enum Seat<'a, F: Fold> {
+    Inside { items: &'a [F::Item] },
+    Between { item: &'a F::Item },
+}
+
+/// The seat of the item at a place.
+pub(crate) fn seat_at<'a, F: Fold, S: BlockSize>(part: Part<'a, F, S>, place: u64) -> Seat<'a, F>
+    requires { place < length part.tree.now.items }
+    ensures { IsFront (items_at result) (drop place part.entry.tree.now.items) }
+{
+    match part.tree.look() {
+        Look::Empty => unreachable!(),
+        Look::Block { items } => {
+            let (_, rest) = items.split_at(place as usize);
+            Seat::Inside { items: rest }
+        }
+        Look::Node { left, item, right } => {
+            let before = left.size();
+            if place < before {
+                seat_at(Part { tree: left }, place)
+            } else if place == before {
+                Seat::Between { item }
+            } else {
+                seat_at(Part { tree: right }, place - before - 1)
+            }
+        }
+    }
+}
+
+/// The item at a place, which is lent.
+fn item_at<'a, F: Fold, S: BlockSize>(tree: &'a SeqTree<F, S>, place: u64) -> &'a F::Item
+    requires { place < length tree.now.items }
+    ensures { slice_get tree.now.items place ≡ Some result.now }
+{
+    match seat_at(Part { tree }, place) {
+        Seat::Inside { items } => &items[0],
+        Seat::Between { item } => item,
+    }
+}
+
+/// A block with another item at a place.
+fn set_in_block<F: Fold, S: BlockSize>(
+    alloc: Global,
+    items: &[F::Item],
+    place: u64,
+    item: F::Item,
+) -> Result<SeqTree<F, S>, NoMemory>
+    requires block_size { IsBlockSize S.SIZE }
+    requires short { length items.now ≤ 2 * S.SIZE }
+    requires within { place < length items.now }
+    ensures { IfOk result (λ tree. tree.items ≡ slice_set items.now place item) }
+{
+    let mut copy = copy_items::<F>(alloc, items)?;
+    copy[place as usize] = item;
+    SeqTree::from_few(alloc, copy)
+}
+
+/// The sequence with another item at a place.
+fn set_at<F: Fold, S: BlockSize>(
+    alloc: Global,
+    part: Part<'_, F, S>,
+    place: u64,
+    item: F::Item,
+) -> Result<SeqTree<F, S>, NoMemory>
+    requires { place < length part.tree.now.items }
+    ensures { IfOk result (λ tree. tree.items ≡ slice_set part.entry.tree.now.items place item) }
+{
+    match part.tree.look() {
+        Look::Empty => unreachable!(),
+        Look::Block { items } => set_in_block(alloc, items, place, item),
+        Look::Node {
+            left,
+            item: middle,
+            right,
+        } => {
+            let before = left.size();
+            if place == before {
+                return join(alloc, left, item, right);
+            }
+            let middle = share_item::<F>(alloc, middle);
+            if place < before {
+                let left = set_at(alloc, Part { tree: left }, place, item)?;
+                join(alloc, &left, middle, right)
+            } else {
+                let right = set_at(alloc, Part { tree: right }, place - before - 1, item)?;
+                join(alloc, left, middle, &right)
+            }
+        }
+    }
+}
+
+impl<F: Fold, S: BlockSize> SeqOver<F, S> {
+    /// The item at a place, counted from 0; none exactly where the place is at least the size. It takes no memory.
+    pub fn at(&self, alloc: Global, place: u64) -> Option<F::Item>
+        ensures value { result ≡ slice_get self.now.items place }
+        ensures none { IsNone result ↔ (length self.now.items ≤ place) }
+    {
+        if place < self.tree.size() {
+            Some(share_item::<F>(alloc, item_at(&self.tree, place)))
+        } else {
+            None
+        }
+    }
+
+    /// The same items with another at a place, which copies one path and one block.
+    pub fn set(&self, alloc: Global, place: u64, item: F::Item) -> Result<SeqOver<F, S>, NoMemory>
+        requires { place < length self.now.items }
+        ensures { IfOk result (λ seq. seq.items ≡ slice_set self.now.items place item) }
+    {
+        let tree = set_at(alloc, Part { tree: &self.tree }, place, item)?;
+        Ok(SeqOver { tree })
+    }
+}

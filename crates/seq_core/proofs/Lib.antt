@@ -1,0 +1,4 @@
+pub mod Sums
+pub mod Parts
+mod Nodes
+mod Beside

@@ -1,0 +1,9 @@
+use Rattle.std.proofs.Common.{◌<◌, length, arith}
+use Rattle.seq_core.proofs.Parts.{take-around}
+use Rattle.seq_core.proofs.cuts.+take.Goals as goal
+
+pub returns-in_ok-front-in-Node : goal.returns-in_ok-front-in-Node
+returns-in_ok-front-in-Node g t c =
+    let past : length c.in-Node.left.now.items < c.args.count = omega (arith, c.if-count-before.false, c.size-before.ensures.value) in
+    rw (c.in-Node.ensures.top.items_are, take-around c.in-Node.left.now.items c.in-Node.item.now c.in-Node.right.now.items c.args.count past)
+    (rw (c.in_ok-front-in-Node.ensures, c.share_item.ensures, c.size-before.ensures.value) at c.join.ensures)

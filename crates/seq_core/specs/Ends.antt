@@ -1,0 +1,32 @@
+-- The first and the last of some numbers.
+use Rattle.std.specs.Prelude.{◌≡◌, ℕ, Option, Some, None, refl}
+use Rattle.map_model.specs.Fold.{IsMonoidOver}
+use Rattle.aug_monoid.specs.declared.pair64.Pair64.{Pair64}
+
+abbrev pub ends_of : ℕ → Option Pair64
+ends_of n = Some (record { first = n; second = n })
+
+-- the first of the front, and the last of the back
+abbrev pub ends_met : Option Pair64 → Option Pair64 → Option Pair64
+ends_met None b = b
+ends_met (Some a) None = Some a
+ends_met (Some a) (Some b) = Some (record { first = a.first; second = b.second })
+
+pub ends_monoid : IsMonoidOver (λ _. Unit {0}) None ends_met
+ends_monoid = record {
+  unit_fits = tt;
+  combine_fits = λ _ _ _ _. tt;
+  left_unit = λ _ _. refl;
+  right_unit = λ a _. right a;
+  assoc = λ a b c _ _ _. associative a b c;
+}
+  where
+    right : (a : Option Pair64) → ends_met a None ≡ a
+    right None = refl
+    right (Some a) = refl
+
+    associative : (a b c : Option Pair64) → ends_met (ends_met a b) c ≡ ends_met a (ends_met b c)
+    associative None b c = refl
+    associative (Some a) None c = refl
+    associative (Some a) (Some b) None = refl
+    associative (Some a) (Some b) (Some c) = refl

@@ -1,0 +1,11 @@
+//! Sequences at concrete types, with blocks of 1, 2 and 32 items at least.
+#![tactic(auto)]
+
+#[cfg(test)]
+mod borders;
+#[cfg(test)]
+mod examples;
+#[cfg(test)]
+mod growing;
+#[cfg(test)]
+mod lists;
