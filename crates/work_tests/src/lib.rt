@@ -1,0 +1,17 @@
+//! What calls of maps take, counted by keys, augmented values and tests of the callers, and which of them fork: no contract sees it.
+#![tactic(auto)]
+
+#[cfg(test)]
+mod changes;
+#[cfg(test)]
+mod counted;
+#[cfg(test)]
+mod filters;
+#[cfg(test)]
+mod folds;
+#[cfg(test)]
+mod forks;
+#[cfg(test)]
+mod sums;
+#[cfg(test)]
+mod work;
