@@ -1,0 +1,15 @@
+//! Served maps and their operations cross threads.
+use crate::op::Op;
+use crate::served::Served;
+use std::marker::{Send, Sync};
+use versions::SyncState;
+
+fn crosses<T: Send + Sync>(_value: &T) {}
+
+fn state_crosses<S: SyncState>(_state: &S) {}
+
+/// A served map and its operations are sent to and shared among threads.
+pub fn served_crosses(served: &Served, op: &Op) {
+    state_crosses(served);
+    crosses(op);
+}

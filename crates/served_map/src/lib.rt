@@ -1,0 +1,13 @@
+//! The map from numbers to numbers that a store serves: a state that changes by operations of four kinds.
+//!
+//! A batch's operations are applied in order: a key is set, removed or added to, or a range of keys is wiped.
+#![tactic(auto)]
+
+mod applying;
+mod cross;
+mod op;
+mod served;
+
+pub use cross::served_crosses;
+pub use op::Op;
+pub use served::Served;
