@@ -10,7 +10,7 @@ use std::sync::ledger::Ledger;
 use tree_base::BlockSize;
 
 impl<A: Augment, L: LeafMut<A::Key, A::Val>, S: BlockSize> MapOver<A, L, S> {
-    /// Sets a key to a value, in at most `65 * (height + 1) * (B + 2) + 2 * L::FIND` steps. Where no other map has part in a
+    /// Sets a key to a value, in at most `64 * (height + 1) * (B + 2) + L::FIND` steps. Where no other map has part in a
     /// node or block on the way, it is changed where it stands; from the first that has another owner, and where the
     /// `Augment` may refuse, the change goes on by a copy, as `put` does. After a refusal the map is as it was.
     pub fn put_mut<C: Ledger>(
@@ -22,7 +22,7 @@ impl<A: Augment, L: LeafMut<A::Key, A::Val>, S: BlockSize> MapOver<A, L, S> {
     ) -> Result<(), NoMemory>
         ensures entries { IfOk result (λ _. self.new.entries ≡ set A.Key.cmp self.old.entries key val) }
         ensures kept { OnErr result (self.new ≡ self.old) }
-        ensures cost { steps.new ≤ steps.old + (65 * (self.old.height + 1) * (S.SIZE + 2) + 2 * L.FIND) }
+        ensures cost { steps.new ≤ steps.old + (64 * (self.old.height + 1) * (S.SIZE + 2) + L.FIND) }
     {
         tree_changes::put_mut(alloc, &mut self.tree, key, val, steps)
     }
@@ -37,13 +37,13 @@ impl<A: Augment, L: LeafMut<A::Key, A::Val>, S: BlockSize> MapOver<A, L, S> {
     ) -> Result<(), NoMemory>
         ensures entries { IfOk result (λ _. self.new.entries ≡ drop_key A.Key.cmp self.old.entries key.now) }
         ensures kept { OnErr result (self.new ≡ self.old) }
-        ensures cost { steps.new ≤ steps.old + (65 * (self.old.height + 1) * (S.SIZE + 2) + 2 * L.FIND) }
+        ensures cost { steps.new ≤ steps.old + (64 * (self.old.height + 1) * (S.SIZE + 2) + L.FIND) }
     {
         tree_changes::del_mut(alloc, &mut self.tree, key, steps)
     }
 
     /// Sets a key to what `how` makes of its value and the given one, or to the given one where the key is new: the union with
-    /// the map of that one entry, in place as `put_mut`, in at most `66 * (height + 1) * (B + 2) + 3 * L::FIND` steps. After a
+    /// the map of that one entry, in place as `put_mut`, in at most `65 * (height + 1) * (B + 2) + 2 * L::FIND` steps. After a
     /// refusal the map is as it was.
     pub fn put_with<C: Ledger, H: Resolve<A::Val>>(
         &mut self,
@@ -55,7 +55,7 @@ impl<A: Augment, L: LeafMut<A::Key, A::Val>, S: BlockSize> MapOver<A, L, S> {
     ) -> Result<(), NoMemory>
         ensures entries { IfOk result (λ _. self.new.entries ≡ union A.Key.cmp (H.resolved how.now) self.old.entries ((key, val) ∷ [])) }
         ensures kept { OnErr result (self.new ≡ self.old) }
-        ensures cost { steps.new ≤ steps.old + (66 * (self.old.height + 1) * (S.SIZE + 2) + 3 * L.FIND) }
+        ensures cost { steps.new ≤ steps.old + (65 * (self.old.height + 1) * (S.SIZE + 2) + 2 * L.FIND) }
     {
         tree_changes::put_with(alloc, &mut self.tree, key, val, how, steps)
     }

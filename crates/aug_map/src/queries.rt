@@ -84,9 +84,10 @@ impl<A: Augment, L: Leaf<A::Key, A::Val>, S: BlockSize> MapOver<A, L, S> {
         aug_query::aug_project(alloc, &self.tree, lo, hi, how)
     }
 
-    /// How many keys are less than `key`, in time linear in the height. It takes no memory.
+    /// How many keys are less than `key`, in at most `height + L::FIND` steps. It takes no memory.
     pub fn rank<C: Ledger>(&self, key: &A::Key, steps: &mut Steps<C>) -> u64
-        ensures { result ≡ rank A.Key.cmp self.now.entries key.now }
+        ensures value { result ≡ rank A.Key.cmp self.now.entries key.now }
+        ensures cost { steps.new ≤ steps.old + (self.now.height + L.FIND) }
     {
         aug_query::rank(&self.tree, key, steps)
     }
@@ -100,8 +101,8 @@ impl<A: Augment, L: Leaf<A::Key, A::Val>, S: BlockSize> MapOver<A, L, S> {
         aug_query::select(alloc, &self.tree, at)
     }
 
-    /// The entry with the least key greater than `key`; none exactly where no key is greater. It takes no memory where the shares
-    /// of keys and values take none.
+    /// The entry with the least key greater than `key`; none exactly where no key is greater. At most `height + L::FIND` steps. It
+    /// takes no memory where the shares of keys and values take none.
     pub fn next<C: Ledger>(
         &self,
         alloc: Global,
@@ -110,12 +111,13 @@ impl<A: Augment, L: Leaf<A::Key, A::Val>, S: BlockSize> MapOver<A, L, S> {
     ) -> Result<Option<(A::Key, A::Val)>, NoMemory>
         ensures value { IfOk result (λ entry. entry ≡ next A.Key.cmp self.now.entries key.now) }
         ensures succeeds { A.Key.never_refuses → A.Val.never_refuses → IsOk result }
+        ensures cost { steps.new ≤ steps.old + (self.now.height + L.FIND) }
     {
         aug_query::next(alloc, &self.tree, key, steps)
     }
 
-    /// The entry with the greatest key less than `key`; none exactly where no key is less. It takes no memory where the shares of
-    /// keys and values take none.
+    /// The entry with the greatest key less than `key`; none exactly where no key is less. At most `height + L::FIND` steps. It takes
+    /// no memory where the shares of keys and values take none.
     pub fn prev<C: Ledger>(
         &self,
         alloc: Global,
@@ -124,6 +126,7 @@ impl<A: Augment, L: Leaf<A::Key, A::Val>, S: BlockSize> MapOver<A, L, S> {
     ) -> Result<Option<(A::Key, A::Val)>, NoMemory>
         ensures value { IfOk result (λ entry. entry ≡ prev A.Key.cmp self.now.entries key.now) }
         ensures succeeds { A.Key.never_refuses → A.Val.never_refuses → IsOk result }
+        ensures cost { steps.new ≤ steps.old + (self.now.height + L.FIND) }
     {
         aug_query::prev(alloc, &self.tree, key, steps)
     }
@@ -155,6 +158,14 @@ impl<A: Augment, L: Leaf<A::Key, A::Val>, S: BlockSize> MapOver<A, L, S> {
         ensures { IfOk result (λ map. map.entries ≡ above A.Key.cmp self.now.entries key.now) }
     {
         let tree = aug_query::above(alloc, &self.tree, key)?;
+        Ok(MapOver { tree })
+    }
+
+    /// The map of the entries with keys at least `key`, in time linear in the height.
+    pub fn at_least(&self, alloc: Global, key: &A::Key) -> Result<MapOver<A, L, S>, NoMemory>
+        ensures { IfOk result (λ map. map.entries ≡ right_of A.Key.cmp self.now.entries key.now) }
+    {
+        let tree = aug_query::at_least(alloc, &self.tree, key)?;
         Ok(MapOver { tree })
     }
 }

@@ -15,6 +15,6 @@ mod range;
 pub use filter::aug_filter;
 pub use folds::{aug_left, aug_range, aug_right};
 pub use neighbours::{next, prev};
-pub use parts::{above, below, slice};
+pub use parts::{above, at_least, below, slice};
 pub use places::{rank, select};
 pub use project::aug_project;

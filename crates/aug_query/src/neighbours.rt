@@ -1,5 +1,5 @@
 //! The entries nearest to a key.
-ghost use Rattle.std.specs.Prelude.{◌≡◌, None, IfOk, IsOk};
+ghost use Rattle.std.specs.Prelude.{◌≡◌, ◌+◌, ◌≤◌, None, IfOk, IsOk, length};
 ghost use Rattle.std.specs.List.{last_or};
 ghost use Rattle.map_model.specs.Entries.{IsIncreasing};
 ghost use Rattle.map_model.specs.Parts.{next, prev};
@@ -12,8 +12,8 @@ use std::cmp::Ordering;
 use std::sync::ledger::Ledger;
 use tree_base::{BlockSize, LookOver, TreeOver};
 
-/// The entry with the least key greater than `key`; none exactly where no key is greater. It takes no memory where the shares
-/// of keys and values take none.
+/// The entry with the least key greater than `key`; none exactly where no key is greater. At most `height + L::FIND` steps. It
+/// takes no memory where the shares of keys and values take none.
 pub fn next<A: Augment, L: Leaf<A::Key, A::Val>, S: BlockSize, C: Ledger>(
     alloc: Global,
     tree: &TreeOver<A, L, S>,
@@ -22,6 +22,7 @@ pub fn next<A: Augment, L: Leaf<A::Key, A::Val>, S: BlockSize, C: Ledger>(
 ) -> Result<Option<(A::Key, A::Val)>, NoMemory>
     ensures value { IfOk result (λ entry. entry ≡ next A.Key.cmp tree.now.entries key.now) }
     ensures succeeds { A.Key.never_refuses → A.Val.never_refuses → IsOk result }
+    ensures cost { steps.new ≤ steps.old + (tree.now.height + L.FIND) }
 {
     next_in(alloc, Part { tree }, key, steps)
 }
@@ -34,6 +35,7 @@ fn next_in<A: Augment, L: Leaf<A::Key, A::Val>, S: BlockSize, C: Ledger>(
 ) -> Result<Option<(A::Key, A::Val)>, NoMemory>
     ensures value { IfOk result (λ entry. entry ≡ next A.Key.cmp part.entry.tree.now.entries key.now) }
     ensures succeeds { A.Key.never_refuses → A.Val.never_refuses → IsOk result }
+    ensures cost { steps.new ≤ steps.old + (part.entry.tree.now.height + L.FIND) }
 {
     match part.tree.look() {
         LookOver::Empty => Ok(None),
@@ -54,8 +56,8 @@ fn next_in<A: Augment, L: Leaf<A::Key, A::Val>, S: BlockSize, C: Ledger>(
     }
 }
 
-/// The entry with the greatest key less than `key`; none exactly where no key is less. It takes no memory where the shares of
-/// keys and values take none.
+/// The entry with the greatest key less than `key`; none exactly where no key is less. At most `height + L::FIND` steps. It takes
+/// no memory where the shares of keys and values take none.
 pub fn prev<A: Augment, L: Leaf<A::Key, A::Val>, S: BlockSize, C: Ledger>(
     alloc: Global,
     tree: &TreeOver<A, L, S>,
@@ -64,6 +66,7 @@ pub fn prev<A: Augment, L: Leaf<A::Key, A::Val>, S: BlockSize, C: Ledger>(
 ) -> Result<Option<(A::Key, A::Val)>, NoMemory>
     ensures value { IfOk result (λ entry. entry ≡ prev A.Key.cmp tree.now.entries key.now) }
     ensures succeeds { A.Key.never_refuses → A.Val.never_refuses → IsOk result }
+    ensures cost { steps.new ≤ steps.old + (tree.now.height + L.FIND) }
 {
     prev_in(alloc, Part { tree }, key, steps)
 }
@@ -76,6 +79,7 @@ fn prev_in<A: Augment, L: Leaf<A::Key, A::Val>, S: BlockSize, C: Ledger>(
 ) -> Result<Option<(A::Key, A::Val)>, NoMemory>
     ensures value { IfOk result (λ entry. entry ≡ prev A.Key.cmp part.entry.tree.now.entries key.now) }
     ensures succeeds { A.Key.never_refuses → A.Val.never_refuses → IsOk result }
+    ensures cost { steps.new ≤ steps.old + (part.entry.tree.now.height + L.FIND) }
 {
     match part.tree.look() {
         LookOver::Empty => Ok(None),
@@ -102,9 +106,11 @@ fn next_in_block<K: Key, V: Share, L: Leaf<K, V>, C: Ledger>(
     key: &K,
     steps: &mut Steps<C>,
 ) -> Result<Option<(K, V)>, NoMemory>
-    requires { IsIncreasing K.cmp (L.entries leaf.now) }
+    requires increasing { IsIncreasing K.cmp (L.entries leaf.now) }
+    requires short { length (L.entries leaf.now) ≤ 256 }
     ensures value { IfOk result (λ entry. entry ≡ next K.cmp (L.entries leaf.now) key.now) }
     ensures succeeds { K.never_refuses → V.never_refuses → IsOk result }
+    ensures cost { steps.new ≤ steps.old + L.FIND }
 {
     let place = leaf.seek(key, steps);
     if place.hit {
@@ -121,9 +127,11 @@ fn prev_in_block<K: Key, V: Share, L: Leaf<K, V>, C: Ledger>(
     key: &K,
     steps: &mut Steps<C>,
 ) -> Result<Option<(K, V)>, NoMemory>
-    requires { IsIncreasing K.cmp (L.entries leaf.now) }
+    requires increasing { IsIncreasing K.cmp (L.entries leaf.now) }
+    requires short { length (L.entries leaf.now) ≤ 256 }
     ensures value { IfOk result (λ entry. entry ≡ prev K.cmp (L.entries leaf.now) key.now) }
     ensures succeeds { K.never_refuses → V.never_refuses → IsOk result }
+    ensures cost { steps.new ≤ steps.old + L.FIND }
 {
     let before = leaf.seek(key, steps).at;
     if before == 0 {

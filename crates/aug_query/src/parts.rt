@@ -1,7 +1,7 @@
 //! Parts of maps.
 ghost use Rattle.std.specs.Prelude.{◌≡◌, ◌<◌, IfOk};
 ghost use Rattle.map_model.specs.Entries.{IsIncreasing, above, below};
-ghost use Rattle.map_model.specs.Parts.{slice};
+ghost use Rattle.map_model.specs.Parts.{right_of, slice};
 ghost use Rattle.aug_query.specs.Within.{within};
 
 use crate::range::{KeyRange, Span};
@@ -35,6 +35,19 @@ pub fn above<A: Augment, L: Leaf<A::Key, A::Val>, S: BlockSize>(
     ensures { IfOk result (λ part. part.entries ≡ above A.Key.cmp tree.now.entries key.now) }
 {
     let range = KeyRange::Above { lo: key };
+    keep::<A, L, S, Brand>(alloc, Span { tree, range }, Blank::new(1))
+}
+
+/// The map of the entries with keys at least `key`. It shares the trees beside one path, makes at most one block anew, and its
+/// time is logarithmic in the number of entries.
+pub fn at_least<A: Augment, L: Leaf<A::Key, A::Val>, S: BlockSize>(
+    alloc: Global,
+    tree: &TreeOver<A, L, S>,
+    key: &A::Key,
+) -> Result<TreeOver<A, L, S>, NoMemory>
+    ensures { IfOk result (λ part. part.entries ≡ right_of A.Key.cmp tree.now.entries key.now) }
+{
+    let range = KeyRange::AtLeast { lo: key };
     keep::<A, L, S, Brand>(alloc, Span { tree, range }, Blank::new(1))
 }
 

@@ -9,13 +9,14 @@ use std::cmp::Ordering;
 use std::sync::ledger::Ledger;
 use tree_base::{BlockSize, LookOver, TreeOver};
 
-/// How many keys are less than `key`. It goes down one path, and takes no memory.
+/// How many keys are less than `key`. It goes down one path, in at most `height + L::FIND` steps, and takes no memory.
 pub fn rank<A: Augment, L: Leaf<A::Key, A::Val>, S: BlockSize, C: Ledger>(
     tree: &TreeOver<A, L, S>,
     key: &A::Key,
     steps: &mut Steps<C>,
 ) -> u64
-    ensures { result ≡ rank A.Key.cmp tree.now.entries key.now }
+    ensures value { result ≡ rank A.Key.cmp tree.now.entries key.now }
+    ensures cost { steps.new ≤ steps.old + (tree.now.height + L.FIND) }
 {
     rank_in(Part { tree }, key, steps)
 }
@@ -25,7 +26,8 @@ fn rank_in<A: Augment, L: Leaf<A::Key, A::Val>, S: BlockSize, C: Ledger>(
     key: &A::Key,
     steps: &mut Steps<C>,
 ) -> u64
-    ensures { result ≡ rank A.Key.cmp part.entry.tree.now.entries key.now }
+    ensures value { result ≡ rank A.Key.cmp part.entry.tree.now.entries key.now }
+    ensures cost { steps.new ≤ steps.old + (part.entry.tree.now.height + L.FIND) }
 {
     match part.tree.look() {
         LookOver::Empty => 0,

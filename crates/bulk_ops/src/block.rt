@@ -21,7 +21,53 @@ pub(crate) fn meet_around<K, V, M: Reduce<K, V>>(
     how.meet(alloc, front, after)
 }
 
-/// What the next entries of a walk are reduced to, by halves, as outcomes may grow with what they are of.
+/// So many entries are reduced from the left, in one loop; more are reduced by halves.
+const RUN: u64 = 16;
+
+/// What the next entry of a walk is reduced to.
+fn image_next<K: Key, V: Share, L: Leaf<K, V>, M: Reduce<K, V>>(
+    alloc: Global,
+    leaf: &L,
+    walk: &mut Walk,
+    how: &M,
+) -> Result<M::Out, NoMemory>
+    requires place { L.fits_walk leaf.now walk.old }
+    requires inside { walk.old.index < length (L.entries leaf.now) }
+    ensures value { IfOk result (λ out. out ≡ reduce (M.image_of how.now) (M.unit_of how.now) (M.met how.now) (take 1 (drop walk.old.index (L.entries leaf.now)))) }
+    ensures moved { walk.new.index ≡ walk.old.index + 1 }
+    ensures place { L.fits_walk leaf.now walk.new }
+{
+    let Some(entry) = leaf.walk_next(walk) else {
+        unreachable!()
+    };
+    how.of(alloc, entry.key(), entry.val())
+}
+
+/// What the next entries of a walk are reduced to, from the left.
+fn reduce_run<K: Key, V: Share, L: Leaf<K, V>, M: Reduce<K, V>>(
+    alloc: Global,
+    leaf: &L,
+    walk: &mut Walk,
+    count: u64,
+    how: &M,
+) -> Result<M::Out, NoMemory>
+    requires place { L.fits_walk leaf.now walk.old }
+    requires some { 0 < count }
+    requires inside { walk.old.index + count ≤ length (L.entries leaf.now) }
+    ensures value { IfOk result (λ out. out ≡ reduce (M.image_of how.now) (M.unit_of how.now) (M.met how.now) (take count (drop walk.old.index (L.entries leaf.now)))) }
+    ensures moved { IfOk result (λ _. walk.new.index ≡ walk.old.index + count) }
+    ensures place { L.fits_walk leaf.now walk.new }
+{
+    let _start = walk.index; // for the proof alone
+    let mut out = image_next(alloc, leaf, walk, how)?;
+    for _at in 1..count {
+        let image = image_next(alloc, leaf, walk, how)?;
+        out = how.meet(alloc, out, image)?;
+    }
+    Ok(out)
+}
+
+/// What the next entries of a walk are reduced to: by halves down to runs, as outcomes may grow with what they are of.
 fn reduce_next<K: Key, V: Share, L: Leaf<K, V>, M: Reduce<K, V>>(
     alloc: Global,
     leaf: &L,
@@ -36,11 +82,8 @@ fn reduce_next<K: Key, V: Share, L: Leaf<K, V>, M: Reduce<K, V>>(
     ensures moved { IfOk result (λ _. walk.new.index ≡ walk.old.index + count) }
     ensures place { L.fits_walk leaf.now walk.new }
 {
-    if count == 1 {
-        let Some(entry) = leaf.walk_next(walk) else {
-            unreachable!()
-        };
-        return how.of(alloc, entry.key(), entry.val());
+    if count <= RUN {
+        return reduce_run(alloc, leaf, walk, count, how);
     }
     let half = count / 2;
     let front = reduce_next(alloc, leaf, walk, half, how)?;

@@ -1,8 +1,8 @@
 //! Parts of a map, and folds of them.
-ghost use Rattle.std.specs.Prelude.{◌≡◌, IfOk, IsOk};
+ghost use Rattle.std.specs.Prelude.{◌≡◌, IfOk, IsOk, OnErr};
 ghost use Rattle.map_model.specs.Entries.{above, below};
 ghost use Rattle.map_model.specs.Fold.{range_fold};
-ghost use Rattle.map_model.specs.Parts.{slice};
+ghost use Rattle.map_model.specs.Parts.{right_of, slice};
 
 use crate::counters;
 use crate::map::OrdMap;
@@ -33,6 +33,18 @@ impl<A: Augment> OrdMap<A> {
         ensures { IfOk result (λ part. part ≡ above A.Key.cmp self.now key.now) }
     {
         let map = self.map.above(alloc, key)?;
+        Ok(OrdMap { map })
+    }
+
+    /// Takes the entries with keys at least `key` out of the map, and answers them as a map of their own, in O(log n). After a
+    /// refusal the map is as it was.
+    pub fn split_off(&mut self, alloc: Global, key: &A::Key) -> Result<OrdMap<A>, NoMemory>
+        ensures high { IfOk result (λ high. high ≡ right_of A.Key.cmp self.old key.now) }
+        ensures low { IfOk result (λ _. self.new ≡ below A.Key.cmp self.old key.now) }
+        ensures kept { OnErr result (self.new ≡ self.old) }
+    {
+        let map = self.map.at_least(alloc, key)?;
+        self.map = self.map.below(alloc, key)?;
         Ok(OrdMap { map })
     }
 

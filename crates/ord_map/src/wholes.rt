@@ -19,7 +19,7 @@ impl<A: Augment> OrdMap<A> {
         Ok(OrdMap { map })
     }
 
-    /// Puts pairs in order, so that a later pair of a key wins. For m pairs it takes O(m log n).
+    /// Puts pairs in order, so that a later pair of a key wins. For m pairs it takes O(m log(m + n)).
     pub fn extend(&mut self, alloc: Global, pairs: &[(A::Key, A::Val)]) -> Result<(), NoMemory>
         ensures entries { IfOk result (λ _. self.new ≡ after A.Key.cmp self.old (puts pairs.now)) }
         ensures kept { OnErr result (self.new ≡ self.old) }

@@ -6,7 +6,55 @@ use aug_monoid::{Augment, Leaf, NoMemory, Steps, Walk};
 use std::alloc::Global;
 use std::sync::ledger::Ledger;
 
-/// The fold of the next entries of a walk, by halves: an entry takes part in O(log n) combinations of n entries, which counts where
+/// So many entries fold from the left, in one loop; more fold by halves.
+const RUN: u64 = 16;
+
+/// The augmented value of the next entry of a walk.
+fn base_next<A: Augment, L: Leaf<A::Key, A::Val>>(
+    alloc: Global,
+    leaf: &L,
+    walk: &mut Walk,
+) -> Result<A::Aug, NoMemory>
+    requires place { L.fits_walk leaf.now walk.old }
+    requires inside { walk.old.index < length (L.entries leaf.now) }
+    ensures value { IfOk result (λ base. base ≡ fold_of A.base_of A.unit_of A.combined (take 1 (drop walk.old.index (L.entries leaf.now)))) }
+    ensures succeeds { A.never_refuses → IsOk result }
+    ensures moved { walk.new.index ≡ walk.old.index + 1 }
+    ensures place { L.fits_walk leaf.now walk.new }
+{
+    let Some(entry) = leaf.walk_next(walk) else {
+        unreachable!()
+    };
+    A::base(alloc, entry.key(), entry.val())
+}
+
+/// The fold of the next entries of a walk, from the left.
+fn fold_run<A: Augment, L: Leaf<A::Key, A::Val>, C: Ledger>(
+    alloc: Global,
+    leaf: &L,
+    walk: &mut Walk,
+    count: u64,
+    steps: &mut Steps<C>,
+) -> Result<A::Aug, NoMemory>
+    requires place { L.fits_walk leaf.now walk.old }
+    requires some { 0 < count }
+    requires inside { walk.old.index + count ≤ length (L.entries leaf.now) }
+    ensures value { IfOk result (λ fold. fold ≡ fold_of A.base_of A.unit_of A.combined (take count (drop walk.old.index (L.entries leaf.now)))) }
+    ensures succeeds { A.never_refuses → IsOk result }
+    ensures moved { IfOk result (λ _. walk.new.index ≡ walk.old.index + count) }
+    ensures place { L.fits_walk leaf.now walk.new }
+    ensures cost { steps.new < steps.old + count }
+{
+    let _start = walk.index; // for the proof alone
+    let mut fold = base_next::<A, L>(alloc, leaf, walk)?;
+    for _at in 1..count {
+        let base = base_next::<A, L>(alloc, leaf, walk)?;
+        fold = A::combine(alloc, &fold, &base, steps)?;
+    }
+    Ok(fold)
+}
+
+/// The fold of the next entries of a walk: by halves down to runs, so that an entry takes part in O(log n) long combinations where
 /// augmented values grow with what they are of.
 fn fold_next<A: Augment, L: Leaf<A::Key, A::Val>, C: Ledger>(
     alloc: Global,
@@ -24,11 +72,8 @@ fn fold_next<A: Augment, L: Leaf<A::Key, A::Val>, C: Ledger>(
     ensures place { L.fits_walk leaf.now walk.new }
     ensures cost { steps.new < steps.old + count }
 {
-    if count == 1 {
-        let Some(entry) = leaf.walk_next(walk) else {
-            unreachable!()
-        };
-        return A::base(alloc, entry.key(), entry.val());
+    if count <= RUN {
+        return fold_run::<A, L, C>(alloc, leaf, walk, count, steps);
     }
     let half = count / 2;
     let front = fold_next::<A, L, C>(alloc, leaf, walk, half, steps)?;

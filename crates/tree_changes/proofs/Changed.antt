@@ -1,5 +1,5 @@
 -- A node made anew over changed sides.
-use Rattle.std.proofs.Common.{◌≡◌, ℕ, ◌+◌, ◌^◌, ◌<◌, List, ◌∷◌, ◌++◌, length, sym, subst, arith}
+use Rattle.std.proofs.Common.{◌≡◌, ℕ, zero, suc, ◌+◌, ◌^◌, ◌<◌, ◌≤◌, List, [], ◌∷◌, ◌++◌, length, take, drop, refl, sym, subst, arith}
 use Rattle.std.specs.Prelude.{Result, Ok, Err, IfOk, OnErr}
 use Rattle.std.specs.declared.cmp.Ordering.{Ordering}
 use Rattle.map_model.specs.Balance.{FillsNode, IsBalanced, weight}
@@ -14,6 +14,13 @@ use Rattle.tree_changes.specs.Refreshed.{IsRefreshed}
 pub by_outcome : {A B E F G H P : Type 0} (r : Result A B) → IfOk r (λ _. E) → IfOk r (λ _. F) → OnErr r G → OnErr r H → (E → F → P) → (G → H → P) → P
 by_outcome (Ok _) e f g h done refused = done e f
 by_outcome (Err _) e f g h done refused = refused g h
+
+-- what is left of one entry without it
+pub nothing_left : {E : Type 0} (es : List E) (at : ℕ) → at < length es → length es ≤ 1 → take at es ++ drop (at + 1) es ≡ []
+nothing_left [] at h few = absurd (omega (arith, h))
+nothing_left (e ∷ []) zero h few = refl
+nothing_left (e ∷ []) (suc at) h few = absurd (omega (arith, h))
+nothing_left (e ∷ f ∷ es) at h few = absurd (omega (arith, few))
 
 module _ {A L S K V X : Type 0} (order : K → K → Ordering) (base : K → V → X) (unit : X) (combine : X → X → X) (block : ℕ) where
   -- a lawful node of these entries

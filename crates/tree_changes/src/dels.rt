@@ -13,7 +13,7 @@ use tree_points::del;
 
 /// Removes a key, which the map need not have, in O(log n + B) time: in place at each node and block that has one owner and
 /// keeps its shape, and from the first one on that has not, or would not, as `del` does. After a refusal the map is as it
-/// was. It takes at most `65 * (height + 1) * (B + 2) + 2 * L::FIND` steps.
+/// was. It takes at most `64 * (height + 1) * (B + 2) + L::FIND` steps.
 pub fn del_mut<A: Augment, L: LeafMut<A::Key, A::Val>, S: BlockSize, C: Ledger>(
     alloc: Global,
     tree: &mut TreeOver<A, L, S>,
@@ -22,7 +22,7 @@ pub fn del_mut<A: Augment, L: LeafMut<A::Key, A::Val>, S: BlockSize, C: Ledger>(
 ) -> Result<(), NoMemory>
     ensures entries { IfOk result (λ _. tree.new.entries ≡ drop_key A.Key.cmp tree.old.entries key.now) }
     ensures kept { OnErr result (tree.new ≡ tree.old) }
-    ensures cost { steps.new ≤ steps.old + (65 * (tree.old.height + 1) * (S.SIZE + 2) + 2 * L.FIND) }
+    ensures cost { steps.new ≤ steps.old + (64 * (tree.old.height + 1) * (S.SIZE + 2) + L.FIND) }
 {
     if A::is_total() {
         return del_in(alloc, PartMut { tree }, key, steps);
@@ -41,7 +41,7 @@ fn del_in<A: Augment, L: Leaf<A::Key, A::Val> + LeafMut<A::Key, A::Val>, S: Bloc
     requires total { A.never_refuses }
     ensures entries { IfOk result (λ _. part.exit.0.now.entries ≡ drop_key A.Key.cmp part.entry.tree.now.entries key.now) }
     ensures kept { OnErr result (part.exit.0.now ≡ part.entry.tree.now) }
-    ensures cost { steps.new ≤ steps.old + (65 * (part.entry.tree.now.height + 1) * (S.SIZE + 2) + 2 * L.FIND) }
+    ensures cost { steps.new ≤ steps.old + (64 * (part.entry.tree.now.height + 1) * (S.SIZE + 2) + L.FIND) }
 {
     let PartMut { tree } = part;
     match &mut tree.top {
@@ -56,6 +56,8 @@ fn del_in<A: Augment, L: Leaf<A::Key, A::Val> + LeafMut<A::Key, A::Val>, S: Bloc
                     remove_in_own_block(alloc, block, place.at, steps)?;
                     return Ok(());
                 }
+                *tree = TreeOver::empty();
+                return Ok(());
             }
         }
         Top::Node(owner) => {

@@ -9,11 +9,11 @@ use std::alloc::Global;
 use std::sync::Arc;
 use std::sync::ledger::Ledger;
 use tree_base::{BlockSize, Top, TreeOver};
-use tree_points::put;
+use tree_points::{put, put_sought};
 
 /// Sets a key to a value, in O(log n + B) time: in place at each node and block that has one owner and keeps its shape, and
 /// from the first one on that has not, or would not, as `put` does. After a refusal the map is as it was. It takes at most
-/// `65 * (height + 1) * (B + 2) + 2 * L::FIND` steps.
+/// `64 * (height + 1) * (B + 2) + L::FIND` steps.
 pub fn put_mut<A: Augment, L: LeafMut<A::Key, A::Val>, S: BlockSize, C: Ledger>(
     alloc: Global,
     tree: &mut TreeOver<A, L, S>,
@@ -23,7 +23,7 @@ pub fn put_mut<A: Augment, L: LeafMut<A::Key, A::Val>, S: BlockSize, C: Ledger>(
 ) -> Result<(), NoMemory>
     ensures entries { IfOk result (λ _. tree.new.entries ≡ set A.Key.cmp tree.old.entries key val) }
     ensures kept { OnErr result (tree.new ≡ tree.old) }
-    ensures cost { steps.new ≤ steps.old + (65 * (tree.old.height + 1) * (S.SIZE + 2) + 2 * L.FIND) }
+    ensures cost { steps.new ≤ steps.old + (64 * (tree.old.height + 1) * (S.SIZE + 2) + L.FIND) }
 {
     if A::is_total() {
         return put_in(alloc, PartMut { tree }, key, val, steps);
@@ -43,7 +43,7 @@ fn put_in<A: Augment, L: Leaf<A::Key, A::Val> + LeafMut<A::Key, A::Val>, S: Bloc
     requires total { A.never_refuses }
     ensures entries { IfOk result (λ _. part.exit.0.now.entries ≡ set A.Key.cmp part.entry.tree.now.entries key val) }
     ensures kept { OnErr result (part.exit.0.now ≡ part.entry.tree.now) }
-    ensures cost { steps.new ≤ steps.old + (65 * (part.entry.tree.now.height + 1) * (S.SIZE + 2) + 2 * L.FIND) }
+    ensures cost { steps.new ≤ steps.old + (64 * (part.entry.tree.now.height + 1) * (S.SIZE + 2) + L.FIND) }
 {
     let PartMut { tree } = part;
     match &mut tree.top {
@@ -55,6 +55,9 @@ fn put_in<A: Augment, L: Leaf<A::Key, A::Val> + LeafMut<A::Key, A::Val>, S: Bloc
                     put_in_own_block(alloc, block, place, key, val, steps)?;
                     return Ok(());
                 }
+                let split = put_sought(alloc, &block.leaf, place, key, val, steps)?;
+                *tree = split;
+                return Ok(());
             }
         }
         Top::Node(owner) => {

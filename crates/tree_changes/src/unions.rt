@@ -27,7 +27,7 @@ fn value_with<V: Drop, H: Resolve<V>>(
 
 /// Unites the map with one entry, in O(log n + B) time: an absent key gets the value, and a key that is there what `how` makes
 /// of its old value and this one. It changes the map where `put_mut` does. After a refusal the map is as it was. It takes at
-/// most `66 * (height + 1) * (B + 2) + 3 * L::FIND` steps.
+/// most `65 * (height + 1) * (B + 2) + 2 * L::FIND` steps.
 pub fn put_with<
     A: Augment,
     L: LeafMut<A::Key, A::Val>,
@@ -44,7 +44,7 @@ pub fn put_with<
 ) -> Result<(), NoMemory>
     ensures entries { IfOk result (λ _. tree.new.entries ≡ union A.Key.cmp (H.resolved how.now) tree.old.entries ((key, val) ∷ [])) }
     ensures kept { OnErr result (tree.new ≡ tree.old) }
-    ensures cost { steps.new ≤ steps.old + (66 * (tree.old.height + 1) * (S.SIZE + 2) + 3 * L.FIND) }
+    ensures cost { steps.new ≤ steps.old + (65 * (tree.old.height + 1) * (S.SIZE + 2) + 2 * L.FIND) }
 {
     let found = get(alloc, tree, &key, steps)?;
     let new = value_with(alloc, found, val, how)?;

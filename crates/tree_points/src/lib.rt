@@ -12,4 +12,4 @@ mod sides;
 
 pub use dels::del;
 pub use gets::get;
-pub use puts::{put, single};
+pub use puts::{put, put_sought, single};

@@ -110,6 +110,22 @@ fn parts_of_a_map(rt: HostRuntime) -> Result<(), Fail> {
     Ok(())
 }
 
+/// What is left of a share where the entries from 6 on are split off, and these entries.
+fn split(alloc: Global, map: &Sums) -> Result<[Vec<(u64, u64)>; 2], NoMemory> {
+    let mut low = map.share(alloc)?;
+    let high = low.split_off(alloc, &6)?;
+    Ok([list_of(alloc, &low)?, list_of(alloc, &high)?])
+}
+
+#[test]
+fn a_map_split_off_has_the_key(rt: HostRuntime) -> Result<(), Fail> {
+    let map: Sums = OrdMap::from_pairs(rt.alloc(), &PAIRS)?;
+    let [low, high] = split(rt.alloc(), &map)?;
+    assert_list(&rt, &low, &[(2, 20), (4, 40)]);
+    assert_list(&rt, &high, &[(6, 60), (8, 80)]);
+    Ok(())
+}
+
 const OTHERS: [(u64, u64); 2] = [(4, 5), (7, 70)];
 
 /// The union of two maps, their intersection, and the difference.

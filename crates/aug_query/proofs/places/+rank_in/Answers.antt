@@ -9,26 +9,26 @@ pub overflow_add-result : goal.overflow_add-result
 overflow_add-result g t c =
     let right = c.in-Node.right.now.entries in
     let few = length-filter_le (λ e. is_lt (g.A.Key.Ord.cmp e.0 c.args.key.now)) right in
-    omega (arith, few, c.size-in-Greater.ensures.fits, c.size-in-Greater-2.ensures.value, c.size-in-Greater-2.ensures.fits, c.rank_in-in-Greater.ensures)
+    omega (arith, few, c.size-in-Greater.ensures.fits, c.size-in-Greater-2.ensures.value, c.size-in-Greater-2.ensures.fits, c.rank_in-in-Greater.ensures.value)
 
-pub returns-in-Less : goal.returns-in-Less
-returns-in-Less g t c =
+pub returns-in-Less-clause-value : goal.returns-in-Less-clause-value
+returns-in-Less-clause-value g t c =
     let node = c.in-Node.ensures.top in
-    c.rank_in.ensures
+    c.rank_in.ensures.value
     ∙ sym (ap (λ m. rank g.A.Key.Ord.cmp m c.args.key.now) node.entries_are ∙ rank-around_less g.met.A.Key.Ord.total c.in-Node.left.now.entries c.in-Node.middle.now c.in-Node.val.now c.in-Node.right.now.entries c.args.key.now node.increasing (sym c.in-Less.ensures.value))
 
-pub returns-in-Equal : goal.returns-in-Equal
-returns-in-Equal g t c =
+pub returns-in-Equal-clause-value : goal.returns-in-Equal-clause-value
+returns-in-Equal-clause-value g t c =
     let node = c.in-Node.ensures.top in
     c.size.ensures.value
     ∙ sym (ap (λ m. rank g.A.Key.Ord.cmp m c.args.key.now) node.entries_are ∙ rank-around_equal g.met.A.Key.Ord.total c.in-Node.left.now.entries c.in-Node.middle.now c.in-Node.val.now c.in-Node.right.now.entries c.args.key.now node.increasing (sym c.in-Equal.ensures.value))
 
-pub returns-in-Greater : goal.returns-in-Greater
-returns-in-Greater g t c =
+pub returns-in-Greater-clause-value : goal.returns-in-Greater-clause-value
+returns-in-Greater-clause-value g t c =
     let node = c.in-Node.ensures.top in
     let left = c.in-Node.left.now.entries in
     let right = c.in-Node.right.now.entries in
     let e : g.row.A-Key.Denot × g.row.A-Val.Denot = (c.in-Node.middle.now, c.in-Node.val.now) in
     let law = ap (λ m. rank g.A.Key.Ord.cmp m c.args.key.now) node.entries_are ∙ rank-around_greater g.met.A.Key.Ord.total left c.in-Node.middle.now c.in-Node.val.now right c.args.key.now node.increasing (sym c.in-Greater.ensures.value) in
     let whole = ap length node.entries_are ∙ length-append left (e ∷ right) in
-    omega (arith, law, whole, c.size-in-Greater.ensures.value, c.size-in-Greater-2.ensures.value, c.rank_in-in-Greater.ensures)
+    omega (arith, law, whole, c.size-in-Greater.ensures.value, c.size-in-Greater-2.ensures.value, c.rank_in-in-Greater.ensures.value)

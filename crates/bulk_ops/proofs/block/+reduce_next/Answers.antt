@@ -1,24 +1,9 @@
-use Rattle.std.proofs.Common.{◌≡◌, ◌+◌, ◌-◌, ◌/◌, ◌∷◌, ◌++◌, take, drop, Some, sym, ap, ◌∙◌, arith}
-use Rattle.std.specs.List.{slice_get}
-use Rattle.std.specs.Option.{option_map}
+use Rattle.std.proofs.Common.{◌≡◌, ◌+◌, ◌-◌, ◌/◌, ◌++◌, take, drop, ap, ◌∙◌, arith}
 use Rattle.std.proofs.Math.Seq.{take-add}
-use Rattle.std.proofs.lemmas.List.{drop-drop, drop_more}
-use Rattle.std.proofs.lemmas.Option.{slice_get_within, get_or_from_slice_get}
+use Rattle.std.proofs.lemmas.List.{drop-drop}
 use Rattle.map_model.specs.Fold.{reduce}
-use Rattle.map_model.proofs.Folds.{fold-append, fold-one}
-use Rattle.aug_monoid.specs.Lending.{entry_of}
+use Rattle.map_model.proofs.Folds.{fold-append}
 use Rattle.bulk_ops.proofs.block.+reduce_next.Goals as goal
-
-pub returns-then-count-eq1-clause-value : goal.returns-then-count-eq1-clause-value
-returns-then-count-eq1-clause-value g t c =
-    let laws = g.met.M.Reduce in
-    let how = c.args.how.now in
-    let entries = g.L.Leaf.entries c.args.leaf.now in
-    let at = c.args.walk.now.index in
-    let entry = entry_of c.in-Some.entry in
-    let found : slice_get entries at ≡ Some entry = sym c.walk_next.ensures.value ∙ ap (option_map entry_of) c.in-Some.is in
-    let here : drop at entries ≡ entry ∷ drop (at + 1) entries = drop_more entries at entry (slice_get_within entries at entry found) ∙ ap (λ x. x ∷ drop (at + 1) entries) (get_or_from_slice_get entries at entry entry found) in
-    rw (c.if-count-eq1.true, here, fold-one (laws.monoid how) (laws.image_fits how) entry.0 entry.1) (rw (c.key.ensures, c.val.ensures) at c.of.ensures)
 
 pub returns-clause-value : goal.returns-clause-value
 returns-clause-value g t c =

@@ -10,13 +10,13 @@ returns-then-is_gt g c = counted_none c.args.map.now.entries c.args.lo.now c.arg
 pub overflow_sub-result : goal.overflow_sub-result
 overflow_sub-result g c =
     let m = c.args.map.now.entries in
-    let less : c.rank.result ≡ rank pair64_cmp m c.args.lo.now = c.rank.ensures in
+    let less : c.rank.result ≡ rank pair64_cmp m c.args.lo.now = c.rank.ensures.value in
     let between = counted_between m c.args.lo.now c.args.hi.now (sym (c.is_gt.ensures ∙ ap is_gt c.cmp.ensures) ∙ c.if-is_gt.false) in
     omega (arith, less, between, c.in_ok-upto.ensures)
 
 pub returns : goal.returns
 returns g c =
     let m = c.args.map.now.entries in
-    let less : c.rank.result ≡ rank pair64_cmp m c.args.lo.now = c.rank.ensures in
+    let less : c.rank.result ≡ rank pair64_cmp m c.args.lo.now = c.rank.ensures.value in
     let between = counted_between m c.args.lo.now c.args.hi.now (sym (c.is_gt.ensures ∙ ap is_gt c.cmp.ensures) ∙ c.if-is_gt.false) in
     omega (arith, less, between, c.in_ok-upto.ensures)

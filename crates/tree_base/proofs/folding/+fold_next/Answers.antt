@@ -1,22 +1,9 @@
-use Rattle.std.proofs.Common.{◌≡◌, ◌+◌, ◌-◌, ◌/◌, ◌++◌, take, drop, Some, sym, ap, ◌∙◌, arith}
-use Rattle.std.specs.List.{slice_get}
-use Rattle.std.specs.Option.{option_map}
+use Rattle.std.proofs.Common.{◌≡◌, ◌+◌, ◌-◌, ◌/◌, ◌++◌, take, drop, ap, ◌∙◌, arith}
 use Rattle.std.proofs.Math.Seq.{take-add}
 use Rattle.std.proofs.lemmas.List.{drop-drop}
 use Rattle.map_model.specs.Fold.{fold_of}
-use Rattle.map_model.proofs.Folds.{fold-append, fold-one}
-use Rattle.aug_monoid.specs.Lending.{entry_of}
-use Rattle.tree_base.proofs.Nodes.{drop_at}
+use Rattle.map_model.proofs.Folds.{fold-append}
 use Rattle.tree_base.proofs.folding.+fold_next.Goals as goal
-
-pub returns-then-count-eq1-clause-value : goal.returns-then-count-eq1-clause-value
-returns-then-count-eq1-clause-value g t c =
-    let law = g.met.A.Augment in
-    let entries = g.L.Leaf.entries c.args.leaf.now in
-    let at = c.args.walk.now.index in
-    let entry = entry_of c.in-Some.entry in
-    let found : slice_get entries at ≡ Some entry = sym c.walk_next.ensures.value ∙ ap (option_map entry_of) c.in-Some.is in
-    rw (c.if-count-eq1.true, drop_at entries at entry found, fold-one law.monoid law.base_fits entry.0 entry.1) (rw (c.key.ensures, c.val.ensures) at c.base.ensures.value)
 
 pub returns-clause-value : goal.returns-clause-value
 returns-clause-value g t c =

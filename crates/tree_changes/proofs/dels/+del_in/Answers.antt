@@ -1,9 +1,9 @@
-use Rattle.std.proofs.Common.{rules, ◌≡◌, ◌+◌, ◌++◌, take, drop, sym, ap, ◌∙◌, arith}
+use Rattle.std.proofs.Common.{rules, ◌≡◌, ◌+◌, ◌<◌, [], ◌++◌, length, take, drop, sym, ap, ◌∙◌, arith}
 use Rattle.std.proofs.lemmas.Bool.{false_from_ne_true, false≢true, not-true, not-false}
 use Rattle.map_model.specs.Entries.{drop_key}
 use Rattle.map_model.proofs.Cuts.{drop_sizes, none_of_absent, parts_found, place_found}
 use Rattle.map_model.proofs.Splits.{IsIncreasing-drop_key, drop_key-absent, drop_key-split}
-use Rattle.tree_changes.proofs.Changed.{by_outcome}
+use Rattle.tree_changes.proofs.Changed.{by_outcome, nothing_left}
 use Rattle.tree_changes.proofs.Costs.{level_changed}
 use Rattle.tree_changes.proofs.DelNodes.{del_left_fits, del_right_fits, del_left, del_right}
 use Rattle.tree_changes.proofs.Owned.{top_block, top_node, left_is_shorter, right_is_shorter, left_is_lower, right_is_lower}
@@ -197,3 +197,31 @@ invariant_of-tree-3 g t c = search rules
 
 pub invariant_of-drop : goal.invariant_of-drop
 invariant_of-drop g t c = search rules
+
+pub empty-requires : goal.empty-requires
+empty-requires g t c =
+    let a = g.A.Augment in
+    let own = top_block g.L.Leaf.entries g.A.Key.Ord.cmp a.base_of a.unit_of a.combined g.S.BlockSize.SIZE c.args.part.tree.now c.in-Some.block.now c.in-Block.owner c.tree.inside.top c.in-Some.ensures.value c.in-Block.is c.tree.invariant c.tree.view_is in
+    own.shape.block_size
+
+pub invariant_of-tree-in-Some : goal.invariant_of-tree-in-Some
+invariant_of-tree-in-Some g t c =
+    search rules
+
+pub invariant_of-drop-2 : goal.invariant_of-drop-2
+invariant_of-drop-2 g t c =
+    search rules
+
+pub returns-in-Some-clause-entries : goal.returns-in-Some-clause-entries
+returns-in-Some-clause-entries g t c =
+    let a = g.A.Augment in
+    let own = top_block g.L.Leaf.entries g.A.Key.Ord.cmp a.base_of a.unit_of a.combined g.S.BlockSize.SIZE c.args.part.tree.now c.in-Some.block.now c.in-Block.owner c.tree.inside.top c.in-Some.ensures.value c.in-Block.is c.tree.invariant c.tree.view_is in
+    let entries = g.L.Leaf.entries c.in-Some.block.now.leaf in
+    let hit = c.seek-place.ensures.hit.0 (not-false _ c.if-not-place.false) in
+    let at = c.seek-place.result.at in
+    let there : at < length entries = rw c.seek-place.ensures.at (place_found g.met.A.Key.Ord.total g.met.A.Key.Key.exact entries c.args.key.now own.shape.increasing hit) in
+    let parts = parts_found g.met.A.Key.Ord.total g.met.A.Key.Key.exact entries c.args.key.now own.shape.increasing hit in
+    let removed : take at entries ++ drop (at + 1) entries ≡ drop_key g.A.Key.Ord.cmp entries c.args.key.now = rw (c.seek-place.ensures.at, parts.0, parts.1) (sym (drop_key-split g.met.A.Key.Ord.total g.met.A.Key.Key.exact entries c.args.key.now own.shape.increasing)) in
+    let none = nothing_left entries at there (omega (arith, c.if-len-gt1.false, c.len.ensures.value)) in
+    let gone : [] ≡ drop_key g.A.Key.Ord.cmp c.args.part.tree.now.entries c.args.key.now = sym none ∙ removed ∙ ap (λ m. drop_key g.A.Key.Ord.cmp m c.args.key.now) own.entries_are in
+    ap (λ v. v.entries) (c.drop.view_is ∙ c.empty.ensures) ∙ gone

@@ -1,15 +1,15 @@
-use Rattle.std.proofs.Common.{rules, ◌≡◌, ◌+◌, ◌*◌, ◌≤◌, length, subst, arith}
+use Rattle.std.proofs.Common.{rules, ◌≡◌, ◌+◌, ◌*◌, ◌<◌, ◌≤◌, length, subst, arith}
 use Rattle.map_model.specs.Entries.{set}
 use Rattle.map_model.proofs.Cuts.{set_sizes}
 use Rattle.map_model.proofs.Lengths.{length-set}
 use Rattle.map_model.proofs.Splits.{IsIncreasing-set}
 use Rattle.tree_base.specs.Top.{contents}
 use Rattle.tree_changes.proofs.Changed.{by_outcome}
-use Rattle.tree_changes.proofs.Costs.{level_changed, copied_cost}
+use Rattle.tree_changes.proofs.Costs.{level_changed, copied_cost, sought_cost}
 use Rattle.tree_changes.proofs.Owned.{top_block, top_node, left_is_shorter, right_is_shorter, left_is_lower, right_is_lower, sides_fit}
 use Rattle.tree_changes.proofs.PutNodes.{put_left_fits, put_right_fits, put_left, put_right, put_here}
 use Rattle.tree_changes.proofs.puts.+put_in.Goals as goal
-use Rattle.tree_changes.proofs.puts.+put_in.Goals.{then-place-via-then-place, then-place-via-else-place+then-len-SIZE, in-Empty, in-Block+in-Some+else-place+else-len-SIZE, in-Block+in_default, in-Node+in-Some-get_mut+in-Copy, in-Node+in_default-get_mut}
+use Rattle.tree_changes.proofs.puts.+put_in.Goals.{then-place-via-then-place, then-place-via-else-place+then-len-SIZE, in-Empty, in-Block+in_default, in-Node+in-Some-get_mut+in-Copy, in-Node+in_default-get_mut}
 
 pub put_in-requires : goal.put_in-requires
 put_in-requires g t c κs within =
@@ -134,46 +134,38 @@ returns-in-Here-clause-entries g t c =
 pub returns-in_err-tree-inside-clause-cost : goal.returns-in_err-tree-inside-clause-cost
 returns-in_err-tree-inside-clause-cost g t c =
     let a = g.A.Augment in
-    let look : c.match-tree.steps ≤ c.args.steps.now + (g.L.Leaf.FIND + 1) = elim c.match-tree.branch [
+    let look : c.match-tree.steps ≤ c.args.steps.now + 1 = elim c.match-tree.branch [
       | in-Empty w ↦ omega (arith, w.steps-is)
-      | in-Block+in-Some+else-place+else-len-SIZE w ↦
-          let own = top_block g.L.Leaf.entries g.A.Key.Ord.cmp a.base_of a.unit_of a.combined g.S.BlockSize.SIZE c.args.part.tree.now w.in-Some.block.now w.in-Block.owner c.tree.inside.top w.in-Some.ensures.value w.in-Block.is c.tree.invariant c.tree.view_is in
-          omega (arith, w.steps-is, w.seek-place.ensures.within (omega (arith, own.shape.short, own.shape.block_size.1)))
       | in-Block+in_default w ↦ omega (arith, w.steps-is)
       | in-Node+in-Some-get_mut+in-Copy w ↦ omega (arith, w.steps-is, w.way_of_put.ensures.one_step)
       | in-Node+in_default-get_mut w ↦ omega (arith, w.steps-is)
     ] in
     let same : (contents g.L.Leaf.entries c.match-tree.tree-inside.top).height ≡ c.args.part.tree.now.height = elim c.match-tree.branch [
       | in-Empty w ↦ search rules
-      | in-Block+in-Some+else-place+else-len-SIZE w ↦ search rules
       | in-Block+in_default w ↦ search rules
       | in-Node+in-Some-get_mut+in-Copy w ↦ search rules
       | in-Node+in_default-get_mut w ↦ search rules
     ] in
     copied_cost c.args.part.tree.now.height g.S.BlockSize.SIZE g.L.Leaf.FIND c.args.steps.now c.match-tree.steps c.put.new.steps look
-    (subst (λ h. c.put.new.steps ≤ c.match-tree.steps + (64 * (h + 1) * (g.S.BlockSize.SIZE + 2) + g.L.Leaf.FIND)) same c.put.ensures.cost)
+    (subst (λ h. c.put.new.steps < c.match-tree.steps + (64 * (h + 1) * (g.S.BlockSize.SIZE + 2) + g.L.Leaf.FIND)) same c.put.ensures.cost)
 
 pub returns-clause-cost : goal.returns-clause-cost
 returns-clause-cost g t c =
     let a = g.A.Augment in
-    let look : c.match-tree.steps ≤ c.args.steps.now + (g.L.Leaf.FIND + 1) = elim c.match-tree.branch [
+    let look : c.match-tree.steps ≤ c.args.steps.now + 1 = elim c.match-tree.branch [
       | in-Empty w ↦ omega (arith, w.steps-is)
-      | in-Block+in-Some+else-place+else-len-SIZE w ↦
-          let own = top_block g.L.Leaf.entries g.A.Key.Ord.cmp a.base_of a.unit_of a.combined g.S.BlockSize.SIZE c.args.part.tree.now w.in-Some.block.now w.in-Block.owner c.tree.inside.top w.in-Some.ensures.value w.in-Block.is c.tree.invariant c.tree.view_is in
-          omega (arith, w.steps-is, w.seek-place.ensures.within (omega (arith, own.shape.short, own.shape.block_size.1)))
       | in-Block+in_default w ↦ omega (arith, w.steps-is)
       | in-Node+in-Some-get_mut+in-Copy w ↦ omega (arith, w.steps-is, w.way_of_put.ensures.one_step)
       | in-Node+in_default-get_mut w ↦ omega (arith, w.steps-is)
     ] in
     let same : (contents g.L.Leaf.entries c.match-tree.tree-inside.top).height ≡ c.args.part.tree.now.height = elim c.match-tree.branch [
       | in-Empty w ↦ search rules
-      | in-Block+in-Some+else-place+else-len-SIZE w ↦ search rules
       | in-Block+in_default w ↦ search rules
       | in-Node+in-Some-get_mut+in-Copy w ↦ search rules
       | in-Node+in_default-get_mut w ↦ search rules
     ] in
     copied_cost c.args.part.tree.now.height g.S.BlockSize.SIZE g.L.Leaf.FIND c.args.steps.now c.match-tree.steps c.put.new.steps look
-    (subst (λ h. c.put.new.steps ≤ c.match-tree.steps + (64 * (h + 1) * (g.S.BlockSize.SIZE + 2) + g.L.Leaf.FIND)) same c.put.ensures.cost)
+    (subst (λ h. c.put.new.steps < c.match-tree.steps + (64 * (h + 1) * (g.S.BlockSize.SIZE + 2) + g.L.Leaf.FIND)) same c.put.ensures.cost)
 
 pub invariant_of-tree : goal.invariant_of-tree
 invariant_of-tree g t c =
@@ -260,3 +252,55 @@ invariant_of-drop g t c = search rules
 
 pub SIZE-requires : goal.SIZE-requires
 SIZE-requires g t c κs within = search rules
+
+pub put_sought-requires-clause-block_size : goal.put_sought-requires-clause-block_size
+put_sought-requires-clause-block_size g t c =
+    let a = g.A.Augment in
+    let own = top_block g.L.Leaf.entries g.A.Key.Ord.cmp a.base_of a.unit_of a.combined g.S.BlockSize.SIZE c.args.part.tree.now c.in-Some.block.now c.in-Block.owner c.tree.inside.top c.in-Some.ensures.value c.in-Block.is c.tree.invariant c.tree.view_is in
+    own.shape.block_size
+
+pub put_sought-requires-clause-increasing : goal.put_sought-requires-clause-increasing
+put_sought-requires-clause-increasing g t c =
+    let a = g.A.Augment in
+    let own = top_block g.L.Leaf.entries g.A.Key.Ord.cmp a.base_of a.unit_of a.combined g.S.BlockSize.SIZE c.args.part.tree.now c.in-Some.block.now c.in-Block.owner c.tree.inside.top c.in-Some.ensures.value c.in-Block.is c.tree.invariant c.tree.view_is in
+    own.shape.increasing
+
+pub put_sought-requires-clause-short : goal.put_sought-requires-clause-short
+put_sought-requires-clause-short g t c =
+    let a = g.A.Augment in
+    let own = top_block g.L.Leaf.entries g.A.Key.Ord.cmp a.base_of a.unit_of a.combined g.S.BlockSize.SIZE c.args.part.tree.now c.in-Some.block.now c.in-Block.owner c.tree.inside.top c.in-Some.ensures.value c.in-Block.is c.tree.invariant c.tree.view_is in
+    own.shape.short
+
+pub put_sought-requires-clause-at : goal.put_sought-requires-clause-at
+put_sought-requires-clause-at g t c =
+    c.seek-place.ensures.at
+
+pub put_sought-requires-clause-hit : goal.put_sought-requires-clause-hit
+put_sought-requires-clause-hit g t c =
+    c.seek-place.ensures.hit
+
+pub returns-in_err-split-in-Block-clause-cost : goal.returns-in_err-split-in-Block-clause-cost
+returns-in_err-split-in-Block-clause-cost g t c =
+    let a = g.A.Augment in
+    let own = top_block g.L.Leaf.entries g.A.Key.Ord.cmp a.base_of a.unit_of a.combined g.S.BlockSize.SIZE c.args.part.tree.now c.in-Some.block.now c.in-Block.owner c.tree.inside.top c.in-Some.ensures.value c.in-Block.is c.tree.invariant c.tree.view_is in
+    let look = c.seek-place.ensures.within (omega (arith, own.shape.short, own.shape.block_size.1)) in
+    sought_cost c.args.part.tree.now.height g.S.BlockSize.SIZE g.L.Leaf.FIND c.args.steps.now c.seek-place.new.steps c.put_sought.new.steps look c.put_sought.ensures.cost
+
+pub returns-in-Some-clause-cost : goal.returns-in-Some-clause-cost
+returns-in-Some-clause-cost g t c =
+    let a = g.A.Augment in
+    let own = top_block g.L.Leaf.entries g.A.Key.Ord.cmp a.base_of a.unit_of a.combined g.S.BlockSize.SIZE c.args.part.tree.now c.in-Some.block.now c.in-Block.owner c.tree.inside.top c.in-Some.ensures.value c.in-Block.is c.tree.invariant c.tree.view_is in
+    let look = c.seek-place.ensures.within (omega (arith, own.shape.short, own.shape.block_size.1)) in
+    sought_cost c.args.part.tree.now.height g.S.BlockSize.SIZE g.L.Leaf.FIND c.args.steps.now c.seek-place.new.steps c.put_sought.new.steps look c.put_sought.ensures.cost
+
+pub invariant_of-tree-in-Some : goal.invariant_of-tree-in-Some
+invariant_of-tree-in-Some g t c =
+    search rules
+
+pub invariant_of-tree-in-Break-branch-5 : goal.invariant_of-tree-in-Break-branch-5
+invariant_of-tree-in-Break-branch-5 g t c =
+    search rules
+
+pub invariant_of-drop-2 : goal.invariant_of-drop-2
+invariant_of-drop-2 g t c =
+    search rules
