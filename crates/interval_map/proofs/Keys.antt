@@ -1,5 +1,6 @@
 -- The intervals of a map, from its entries.
 use Rattle.std.proofs.Common.{◌≡◌, Bool, true, false, cond, List, [], ◌∷◌, ◌++◌, refl, ap, ap₂, ◌∙◌}
+use Rattle.std.specs.Prelude.{Result, Ok, Err, OnOk, OnErr}
 use Rattle.std.proofs.lemmas.List.{map-append}
 use Rattle.std.specs.List.{AllByRecursion, filter}
 use Rattle.std.specs.Map.{keys_of}
@@ -9,6 +10,11 @@ use Rattle.aug_monoid.specs.declared.pair64.Pair64.{Pair64}
 use Rattle.map_model.specs.Entries.{IsIncreasing, drop_key, set}
 use Rattle.map_model.proofs.Sorted.{ordered_from_IsIncreasing}
 use Rattle.interval_map.specs.Intervals.{IsInterval, IsIntervals, with_interval, without_interval}
+
+-- what holds after success and after a refusal
+pub by_outcome : {A B E F P : Type 0} (r : Result A B) → OnOk r E → OnErr r F → (E → P) → (F → P) → P
+by_outcome (Ok _) e f done refused = done e
+by_outcome (Err _) e f done refused = refused f
 
 module _ {V : Type 0} where
   -- the keys of the entries whose keys pass a test

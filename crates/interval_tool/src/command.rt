@@ -46,11 +46,11 @@ pub(crate) fn run_command(
 {
     match command {
         IntervalCommand::Add { l, r, .. } => {
-            *intervals = intervals.add(alloc, *l, *r)?;
+            intervals.add_mut(alloc, *l, *r)?;
             count_line(text, "ok", intervals)
         }
         IntervalCommand::Del { l, r, .. } => {
-            *intervals = intervals.del(alloc, *l, *r)?;
+            intervals.del_mut(alloc, *l, *r)?;
             count_line(text, "ok", intervals)
         }
         IntervalCommand::Size { .. } => count_line(text, "size", intervals),

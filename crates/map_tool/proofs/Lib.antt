@@ -3,3 +3,4 @@ pub mod Greatest
 pub mod Kept
 pub mod Numbered
 pub mod Overlaps
+pub mod Replies

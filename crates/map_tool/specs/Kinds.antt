@@ -5,8 +5,8 @@ use Rattle.map_tool.specs.declared.kind.Kind.{Kind}
 use Rattle.map_tool.specs.declared.kind.Kind.TheVariants as kind
 
 abbrev pub kind_of : MapCommand → Kind
-kind_of (command.Put place d k v) = kind.Change
-kind_of (command.Del place d k) = kind.Change
+kind_of (command.Put place d k v) = kind.Entry
+kind_of (command.Del place d k) = kind.Entry
 kind_of (command.Get place m k) = kind.Question
 kind_of (command.Size place m) = kind.Question
 kind_of (command.Sum place m lo hi) = kind.Question

@@ -1,9 +1,8 @@
 //! Commands that change a register by one call on one map.
-ghost use Rattle.std.specs.Prelude.{◌≡◌, ◌<◌, ◌≤◌, ◌+◌, [], length, IfOk, IfSome};
+ghost use Rattle.std.specs.Prelude.{◌≡◌, ◌<◌, [], length, IfOk};
 ghost use Rattle.std.specs.Ordering.{nat_cmp};
-ghost use Rattle.map_model.specs.Entries.{above, below, drop_key, set};
+ghost use Rattle.map_model.specs.Entries.{above, below};
 ghost use Rattle.map_model.specs.Parts.{slice};
-ghost use Rattle.map_tool.specs.Bounds.{change_steps, height_of, most_steps};
 ghost use Rattle.map_tool.specs.Effects.{IsChange, effect};
 ghost use Rattle.map_tool.specs.Kinds.{kind_of};
 ghost use Rattle.map_tool.specs.Registers.{maps_of, register};
@@ -14,41 +13,9 @@ ghost use Rattle.script.specs.Registers.{HasRegisters};
 use crate::change::Change;
 use crate::registers::{Register, map_at};
 use crate::values::AtLeast;
-use aug_monoid::{NoMemory, Share, Steps};
+use aug_monoid::{NoMemory, Share};
 use script::MapCommand;
 use std::alloc::Global;
-use std::sync::ledger::Ledger;
-
-fn put<C: Ledger>(
-    alloc: Global,
-    registers: &[Register],
-    d: u64,
-    k: u64,
-    v: u64,
-    steps: &mut Steps<C>,
-) -> Result<Register, NoMemory>
-    requires count { length registers.now ≡ 16 }
-    requires low { d < 16 }
-    ensures entries { IfOk result (λ map. map.entries ≡ set nat_cmp (register (maps_of registers.now) d) k v) }
-    ensures cost { steps.new ≤ steps.old + change_steps (height_of registers.now d) }
-{
-    map_at(registers, d).put(alloc, k, v, steps)
-}
-
-fn del<C: Ledger>(
-    alloc: Global,
-    registers: &[Register],
-    d: u64,
-    k: u64,
-    steps: &mut Steps<C>,
-) -> Result<Register, NoMemory>
-    requires count { length registers.now ≡ 16 }
-    requires low { d < 16 }
-    ensures entries { IfOk result (λ map. map.entries ≡ drop_key nat_cmp (register (maps_of registers.now) d) k) }
-    ensures cost { steps.new ≤ steps.old + change_steps (height_of registers.now d) }
-{
-    map_at(registers, d).del(alloc, &k, steps)
-}
 
 fn copy(alloc: Global, registers: &[Register], m: u64) -> Result<Register, NoMemory>
     requires count { length registers.now ≡ 16 }
@@ -97,21 +64,17 @@ fn at_least(alloc: Global, registers: &[Register], m: u64, least: u64) -> Result
 }
 
 /// What a command changes by one call on one map.
-pub(crate) fn change<C: Ledger>(
+pub(crate) fn change(
     alloc: Global,
     registers: &[Register],
     command: &MapCommand,
-    steps: &mut Steps<C>,
 ) -> Result<Change, NoMemory>
     requires count { length registers.now ≡ 16 }
     requires low { HasRegisters command.now }
     requires changes { kind_of command.now ≡ kind.Change }
-    ensures change { IfOk result (IsChange (effect (maps_of registers.now) command.now)) }
-    ensures cost { IfSome (most_steps registers.now command.now) (λ most. steps.new ≤ steps.old + most) }
+    ensures { IfOk result (IsChange (effect (maps_of registers.now) command.now)) }
 {
     let (d, map) = match command {
-        MapCommand::Put { d, k, v, .. } => (*d, put(alloc, registers, *d, *k, *v, steps)?),
-        MapCommand::Del { d, k, .. } => (*d, del(alloc, registers, *d, *k, steps)?),
         MapCommand::Copy { d, m, .. } => (*d, copy(alloc, registers, *m)?),
         MapCommand::Clear { d, .. } => (*d, Register::empty()),
         MapCommand::Below { d, m, k, .. } => (*d, below(alloc, registers, *m, *k)?),

@@ -3,7 +3,9 @@ ghost use Rattle.std.specs.Prelude.{◌≡◌, ◌≤◌, ◌<◌, ◌+◌, ◌+
 ghost use Rattle.std.specs.List.{AllByRecursion};
 ghost use Rattle.map_tool.specs.Bounds.{most_steps};
 ghost use Rattle.map_tool.specs.Effects.{IsEffect, effect, map_after, map_reply};
+ghost use Rattle.map_tool.specs.Kinds.{kind_of};
 ghost use Rattle.map_tool.specs.Registers.{empty_registers, maps_of};
+ghost use Rattle.map_tool.specs.declared.kind.Kind.TheVariants as kind;
 ghost use Rattle.script.specs.Registers.{HasRegisters};
 ghost use Rattle.script.specs.Replies.{replies};
 
@@ -13,6 +15,7 @@ use crate::changing::change;
 use crate::combining::combine;
 use crate::kind::{Kind, kind_of};
 use crate::registers::{Register, empty_registers, store};
+use crate::replacing::replace;
 use aug_monoid::{NoMemory, Steps};
 use fork_join::{Cut, Gate};
 use script::{MapCommand, line};
@@ -21,7 +24,7 @@ use std::marker::{Brand, Sync};
 use std::sync::ledger::{Blank, Ledger};
 use std::thread::Threads;
 
-// What a command changes; where it changes nothing, its reply is appended.
+// What a command that sets or removes no single entry changes; where it changes nothing, its reply is appended.
 fn effect_of<R: Threads + Sync, G: Gate, C: Ledger>(
     rt: &R,
     alloc: Global,
@@ -34,6 +37,7 @@ fn effect_of<R: Threads + Sync, G: Gate, C: Ledger>(
 ) -> Result<Option<Change>, NoMemory>
     requires count { length registers.now ≡ 16 }
     requires low { HasRegisters command.now }
+    requires other { kind_of command.now ≡ kind.Entry → ⊥ }
     ensures effect { MatchResult result (λ change. IsEffect (effect (maps_of registers.now) command.now) change text.old.items text.new.items) (λ _. text.new.items ≡ text.old.items) }
     ensures cost { IfSome (most_steps registers.now command.now) (λ most. steps.new ≤ steps.old + most) }
 {
@@ -42,7 +46,8 @@ fn effect_of<R: Threads + Sync, G: Gate, C: Ledger>(
             answer(rt, alloc, gate, cut, registers, command, steps, text)?;
             Ok(None)
         }
-        Kind::Change => Ok(Some(change(alloc, registers, command, steps)?)),
+        Kind::Entry => unreachable!(),
+        Kind::Change => Ok(Some(change(alloc, registers, command)?)),
         Kind::Combination => combine(rt, alloc, gate, cut, registers, command, steps, text),
     }
 }
@@ -66,6 +71,9 @@ fn run_command<R: Threads + Sync, G: Gate, C: Ledger>(
     ensures count { length registers.new ≡ 16 }
     ensures cost { IfSome (most_steps registers.old command.now) (λ most. steps.new ≤ steps.old + most) }
 {
+    if kind_of(command) == Kind::Entry {
+        return replace(alloc, registers, command, steps, text);
+    }
     match effect_of(rt, alloc, gate, cut, registers, command, steps, text)? {
         None => Ok(()),
         Some(Change { d, map }) => {

@@ -9,9 +9,11 @@ use script::MapCommand;
 pub(crate) enum Kind {
     /// It changes nothing.
     Question,
-    /// It changes a register by one call on one map.
+    /// It sets or removes one entry of a register.
+    Entry,
+    /// It gives a register the answer of one call on one map.
     Change,
-    /// It changes a register by a call on whole maps.
+    /// It gives a register the answer of a call on whole maps.
     Combination,
 }
 
@@ -31,9 +33,8 @@ pub(crate) fn kind_of(command: &MapCommand) -> Kind
         | MapCommand::Prev { .. }
         | MapCommand::List { .. }
         | MapCommand::Count { .. } => Kind::Question,
-        MapCommand::Put { .. }
-        | MapCommand::Del { .. }
-        | MapCommand::Copy { .. }
+        MapCommand::Put { .. } | MapCommand::Del { .. } => Kind::Entry,
+        MapCommand::Copy { .. }
         | MapCommand::Clear { .. }
         | MapCommand::Below { .. }
         | MapCommand::Above { .. }

@@ -9,6 +9,7 @@ mod command;
 mod entries;
 mod kind;
 mod registers;
+mod replacing;
 mod values;
 
 pub use command::{map_command, run_map};
