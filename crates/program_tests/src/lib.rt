@@ -11,3 +11,5 @@ mod programs;
 mod records;
 #[cfg(test)]
 mod samples;
+#[cfg(test)]
+mod serve_records;

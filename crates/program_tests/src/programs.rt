@@ -200,6 +200,24 @@ fn replies_to_each_verb(rt: HostRuntime) -> Result<(), Fail> {
 
 /// Inputs of the other tools, and what is replied to them.
 const TOOLS: &[Row] = &[
+    // an appended copy, a sequence turned round, parts of it, and an item that is set where there is one
+    (
+        "seq",
+        b"push,0,1,2,3\nappend,1,0,0\nreverse,2,1\ntake,3,2,2\nskip,4,2,5\nlist,2,0,9\nat,3,1\nat,4,1\nfold,1,1,3\nset,0,3,9\nsize,0\n",
+        b"ok,3\nok,6\nok,6\nok,2\nok,1\nlist,6,3,2,1,3,2,1\nsome,2\nnone\naug,6,3\nnone\nsize,3\n",
+    ),
+    // registers that are read and written by one command, a sum that saturates, and places past the end
+    (
+        "seq",
+        b"push,0,7,18446744073709551615\npush,0,9\nreverse,0,0\nappend,0,0,0\nset,0,5,1\nlist,0,2,3\nfold,0,0,18446744073709551615\ntake,0,0,2\nskip,0,0,1\nlist,0,0,1\nlist,0,18446744073709551615,18446744073709551615\nfold,0,1,1\nskip,0,0,9\ntake,0,0,9\nat,15,0\n",
+        b"ok,2\nok,3\nok,3\nok,6\nok,6\nlist,3,7,9,18446744073709551615\naug,18446744073709551615,18446744073709551615\nok,2\nok,1\nlist,1,18446744073709551615\nlist,0\naug,0,0\nok,0\nok,0\nnone\n",
+    ),
+    // a sequence that is appended to itself up to the most items, and no further
+    (
+        "seq",
+        b"push,0,1\nappend,0,0,0\nappend,0,0,0\nappend,0,0,0\nappend,0,0,0\nappend,0,0,0\nappend,0,0,0\nappend,0,0,0\nappend,0,0,0\nappend,0,0,0\nappend,0,0,0\nappend,0,0,0\nappend,0,0,0\nappend,0,0,0\nappend,0,0,0\nappend,0,0,0\nappend,0,0,0\nappend,0,0,0\nappend,0,0,0\nappend,0,0,0\nappend,0,0,0\nappend,0,0,0\nappend,0,0,0\nappend,0,0,0\nappend,0,0,0\nappend,0,0,0\nfold,0,0,16777216\n",
+        b"ok,1\nok,2\nok,4\nok,8\nok,16\nok,32\nok,64\nok,128\nok,256\nok,512\nok,1024\nok,2048\nok,4096\nok,8192\nok,16384\nok,32768\nok,65536\nok,131072\nok,262144\nok,524288\nok,1048576\nok,2097152\nok,4194304\nok,8388608\nok,16777216\nlong\naug,16777216,1\n",
+    ),
     // both ends of an interval are in it, and intervals may share an end
     (
         "interval",
@@ -277,6 +295,8 @@ const FAULTS: &[Row] = &[
         b"error,1,number\n",
     ),
     ("map", b"sum,0,,9\n", b"error,1,number\n"),
+    ("seq", b"size,0\nat,16,x\n", b"error,2,register\n"),
+    ("seq", b"push,0,1,x\n", b"error,1,number\n"),
     ("interval", b"size\nadd,4,2\n", b"error,2,interval\n"),
     ("interval", b"over,5,4\n", b"error,1,interval\n"),
     ("interval", b"add,4,x\n", b"error,1,number\n"),

@@ -7,10 +7,12 @@ use std::test::Fail;
 fn read(alloc: Global, tool: Tool, input: &[u8]) -> Result<usize, ScriptFault> {
     match commands(alloc, tool, input)? {
         Parsed::Map(list) => Ok(list.items().len()),
+        Parsed::Seq(list) => Ok(list.items().len()),
         Parsed::Interval(list) => Ok(list.items().len()),
         Parsed::Points(list) => Ok(list.items().len()),
         Parsed::Index(list) => Ok(list.items().len()),
         Parsed::Graph(list) => Ok(list.items().len()),
+        Parsed::Serve(list) => Ok(list.items().len()),
     }
 }
 
@@ -45,6 +47,11 @@ const VERBS: &[(Tool, &[u8], usize)] = &[
         Tool::Map,
         b"below,6,2,4\n\nabove,8,2,4\r\n\"slice\",12,0,4,9\natleast,10,2,40\nfilter,11,2,30,40",
         5,
+    ),
+    (
+        Tool::Seq,
+        b"push,0,5\npush,15,5,18446744073709551615\nappend,1,0,15\ntake,2,1,9\nskip,3,1,0\nreverse,4,4\nset,0,0,7\nat,0,9\nfold,0,1,2\nlist,15,0,9\nsize,15\n",
+        11,
     ),
     (
         Tool::Interval,
@@ -105,6 +112,18 @@ const FAULTS: &[(Tool, &[u8], u64, Code)] = &[
     (Tool::Map, b"cat,0,1,16\n", 1, Code::Register),
     (Tool::Map, b"union,0,1,16,least\n", 1, Code::Register),
     (Tool::Map, b"union,0,1,2,least\n", 1, Code::How),
+    (Tool::Seq, b"push,0,1\nput,0,1,2\n", 2, Code::Verb),
+    (Tool::Seq, b"push,0\n", 1, Code::Fields),
+    (Tool::Seq, b"push,16,x\n", 1, Code::Register),
+    (Tool::Seq, b"push,0,1,x\n", 1, Code::Number),
+    (Tool::Seq, b"append,0,1\n", 1, Code::Fields),
+    (Tool::Seq, b"append,0,1,16\n", 1, Code::Register),
+    (Tool::Seq, b"take,0,16,x\n", 1, Code::Register),
+    (Tool::Seq, b"skip,0,1,x\n", 1, Code::Number),
+    (Tool::Seq, b"reverse,0\n", 1, Code::Fields),
+    (Tool::Seq, b"set,0,00,1\n", 1, Code::Number),
+    (Tool::Seq, b"at,0,1,2\n", 1, Code::Fields),
+    (Tool::Seq, b"size,0\nsize,x\n", 2, Code::Register),
     (Tool::Interval, b"add,1,2\nput,1,2\n", 2, Code::Verb),
     (Tool::Interval, b"size,1\n", 1, Code::Fields),
     (Tool::Interval, b"add,4,2,1\n", 1, Code::Fields),

@@ -5,7 +5,7 @@ use Rattle.std.proofs.lemmas.Bool.{cases_Bool, eqb-true, leb-true}
 use Rattle.std.proofs.lemmas.List.{length-drop}
 use Rattle.script.proofs.Chosen.{either_way}
 use Rattle.script.proofs.RowFacts.{all_keep, made₁, made₂, ok_then, then_any}
-use Rattle.script.specs.Commands.{commands_from}
+use Rattle.script.specs.InOrder.{commands_from}
 use Rattle.script.specs.Fields.{field, number_in, term_in, term_of, terms_of}
 use Rattle.script.specs.Index.{HasTerms, index_command}
 use Rattle.script.specs.Records.{Fields}

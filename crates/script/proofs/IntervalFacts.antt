@@ -4,7 +4,7 @@ use Rattle.std.specs.List.{AllByRecursion}
 use Rattle.std.proofs.lemmas.Bool.{cases_Bool, leb-true}
 use Rattle.script.proofs.Chosen.{either_way}
 use Rattle.script.proofs.RowFacts.{all_keep, made₂, then_any}
-use Rattle.script.specs.Commands.{commands_from}
+use Rattle.script.specs.InOrder.{commands_from}
 use Rattle.script.specs.Interval.{HasEnds, interval_command}
 use Rattle.script.specs.Records.{Fields}
 use Rattle.script.specs.Rows.{has_verb}

@@ -5,7 +5,7 @@ use Rattle.std.proofs.lemmas.Bool.{cases_Bool, ltb-true}
 use Rattle.aug_monoid.specs.declared.pair64.Pair64.{Pair64}
 use Rattle.script.proofs.Chosen.{either_way}
 use Rattle.script.proofs.RowFacts.{all_keep, made₁, made₂, made₃, made₄, ok_then, then_any, where_it_fits}
-use Rattle.script.specs.Commands.{commands_from}
+use Rattle.script.specs.InOrder.{commands_from}
 use Rattle.script.specs.Fields.{field, fitting_register, how_in, number_in, numbers_of, or_code, pairs_of, register_in}
 use Rattle.script.specs.Map.{entry_command, joint_command, map_command, part_command, range_command}
 use Rattle.script.specs.Numbers.{number_of}
@@ -19,7 +19,7 @@ use Rattle.script.specs.declared.fault.Code.TheVariants as code
 use Rattle.script.specs.declared.map.How.{How}
 use Rattle.script.specs.declared.map.MapCommand.{MapCommand}
 
-abbrev IsLow : ℕ → Type 0
+abbrev pub IsLow : ℕ → Type 0
 IsLow n = n < 16
 
 low_or_code : (o : Option ℕ) → IfOk (or_code code.Register (fitting_register o)) IsLow
@@ -36,22 +36,22 @@ then_low : {B : Type 0} (P : B → Type 0) (r : Fields) (i : ℕ) (f : ℕ → R
 then_low P r i f h = ok_then IsLow P (register_in r i) f (register_low r i) h
 
 -- the first so many of so many values are registers
-abbrev OneOf₂ : (B : Type 0) → ℕ × B → Type 0
+abbrev pub OneOf₂ : (B : Type 0) → ℕ × B → Type 0
 OneOf₂ B f = f.0 < 16
 
-abbrev OneOf₃ : ℕ × ℕ × ℕ → Type 0
+abbrev pub OneOf₃ : ℕ × ℕ × ℕ → Type 0
 OneOf₃ f = f.0 < 16
 
-abbrev TwoOf₂ : ℕ × ℕ → Type 0
+abbrev pub TwoOf₂ : ℕ × ℕ → Type 0
 TwoOf₂ f = (f.0 < 16) × (f.1 < 16)
 
-abbrev TwoOf₃ : ℕ × ℕ × ℕ → Type 0
+abbrev pub TwoOf₃ : ℕ × ℕ × ℕ → Type 0
 TwoOf₃ f = (f.0 < 16) × (f.1 < 16)
 
 abbrev TwoOf₄ : ℕ × ℕ × ℕ × ℕ → Type 0
 TwoOf₄ f = (f.0 < 16) × (f.1 < 16)
 
-abbrev ThreeOf₃ : ℕ × ℕ × ℕ → Type 0
+abbrev pub ThreeOf₃ : ℕ × ℕ × ℕ → Type 0
 ThreeOf₃ f = (f.0 < 16) × (f.1 < 16) × (f.2 < 16)
 
 abbrev ThreeOf₄ : ℕ × ℕ × ℕ × How → Type 0
@@ -61,18 +61,18 @@ abbrev Lawful : Result MapCommand Code → Type 0
 Lawful read = IfOk read HasRegisters
 
 -- each shape of records begins with its registers
-register_lows : (r : Fields) → IfOk (shape.register r) IsLow
+pub register_lows : (r : Fields) → IfOk (shape.register r) IsLow
 register_lows r = where_it_fits IsLow (length r == 2) _ (register_low r 1)
 
-register_number_lows : (r : Fields) → IfOk (shape.register_number r) (OneOf₂ ℕ)
+pub register_number_lows : (r : Fields) → IfOk (shape.register_number r) (OneOf₂ ℕ)
 register_number_lows r = where_it_fits (OneOf₂ ℕ) (length r == 3) _ (
     then_low (OneOf₂ ℕ) r 1 _ (λ a low. then_any (OneOf₂ ℕ) (number_in r 2) _ (λ b. low)))
 
-register_number_number_lows : (r : Fields) → IfOk (shape.register_number_number r) OneOf₃
+pub register_number_number_lows : (r : Fields) → IfOk (shape.register_number_number r) OneOf₃
 register_number_number_lows r = where_it_fits OneOf₃ (length r == 4) _ (
     then_low OneOf₃ r 1 _ (λ a low. then_any OneOf₃ (number_in r 2) _ (λ b. then_any OneOf₃ (number_in r 3) _ (λ c. low))))
 
-register_numbers_lows : (r : Fields) → IfOk (shape.register_numbers r) (OneOf₂ (List ℕ))
+pub register_numbers_lows : (r : Fields) → IfOk (shape.register_numbers r) (OneOf₂ (List ℕ))
 register_numbers_lows r = where_it_fits (OneOf₂ (List ℕ)) (nat_le 3 (length r)) _ (
     then_low (OneOf₂ (List ℕ)) r 1 _ (λ a low. then_any (OneOf₂ (List ℕ)) (numbers_of (drop 2 r)) _ (λ b. low)))
 
@@ -83,11 +83,11 @@ register_pairs_lows r = where_it_fits (OneOf₂ (List Pair64)) (nat_le 2 (length
 register_some_pairs_lows : (r : Fields) → IfOk (shape.register_some_pairs r) (OneOf₂ (List Pair64))
 register_some_pairs_lows r = where_it_fits (OneOf₂ (List Pair64)) (nat_le 4 (length r)) _ (register_pairs_lows r)
 
-two_registers_lows : (r : Fields) → IfOk (shape.two_registers r) TwoOf₂
+pub two_registers_lows : (r : Fields) → IfOk (shape.two_registers r) TwoOf₂
 two_registers_lows r = where_it_fits TwoOf₂ (length r == 3) _ (
     then_low TwoOf₂ r 1 _ (λ a low. then_low TwoOf₂ r 2 _ (λ b second. (low, second))))
 
-two_registers_number_lows : (r : Fields) → IfOk (shape.two_registers_number r) TwoOf₃
+pub two_registers_number_lows : (r : Fields) → IfOk (shape.two_registers_number r) TwoOf₃
 two_registers_number_lows r = where_it_fits TwoOf₃ (length r == 4) _ (
     then_low TwoOf₃ r 1 _ (λ a low. then_low TwoOf₃ r 2 _ (λ b second. then_any TwoOf₃ (number_in r 3) _ (λ c. (low, second)))))
 
@@ -95,7 +95,7 @@ two_registers_number_number_lows : (r : Fields) → IfOk (shape.two_registers_nu
 two_registers_number_number_lows r = where_it_fits TwoOf₄ (length r == 5) _ (
     then_low TwoOf₄ r 1 _ (λ a low. then_low TwoOf₄ r 2 _ (λ b second. then_any TwoOf₄ (number_in r 3) _ (λ c. then_any TwoOf₄ (number_in r 4) _ (λ d. (low, second))))))
 
-three_registers_lows : (r : Fields) → IfOk (shape.three_registers r) ThreeOf₃
+pub three_registers_lows : (r : Fields) → IfOk (shape.three_registers r) ThreeOf₃
 three_registers_lows r = where_it_fits ThreeOf₃ (length r == 4) _ (
     then_low ThreeOf₃ r 1 _ (λ a low. then_low ThreeOf₃ r 2 _ (λ b second. then_low ThreeOf₃ r 3 _ (λ c third. (low, second, third)))))
 

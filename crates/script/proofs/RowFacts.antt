@@ -2,7 +2,7 @@
 use Rattle.std.proofs.Common.{◌+◌, ℕ, List, [], ◌∷◌, Result, Ok, Err, IfOk, Bool, cond}
 use Rattle.std.specs.List.{AllByRecursion}
 use Rattle.script.proofs.Chosen.{either_way}
-use Rattle.script.specs.Commands.{commands_from}
+use Rattle.script.specs.InOrder.{commands_from}
 use Rattle.script.specs.Records.{Fields}
 use Rattle.script.specs.Results.{◌>>=◌, at_place}
 use Rattle.script.specs.Rows.{makes₁, makes₂, makes₃, makes₄}

@@ -8,10 +8,13 @@ pub mod Shapes
 pub mod Rows
 pub mod Map
 pub mod Registers
+pub mod Seq
 pub mod Interval
 pub mod Points
 pub mod Index
 pub mod Graph
+pub mod InOrder
+pub mod Serve
 pub mod Lawful
 pub mod Commands
 pub mod Replies

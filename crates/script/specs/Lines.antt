@@ -22,6 +22,9 @@ code_word code.Number = codes "number"
 code_word code.Register = codes "register"
 code_word code.How = codes "how"
 code_word code.Term = codes "term"
+code_word code.Callers = codes "callers"
+code_word code.Caller = codes "caller"
+code_word code.Op = codes "op"
 code_word code.Interval = codes "interval"
 
 -- the one line for a bad record

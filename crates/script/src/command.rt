@@ -1,7 +1,7 @@
 //! Commands of any tool, read from records.
 ghost use Rattle.std.specs.Prelude.{◌≡◌, ℕ, List, Result};
 ghost use Rattle.csv.specs.Records.{fields_of};
-ghost use Rattle.script.specs.Commands.{commands_from};
+ghost use Rattle.script.specs.InOrder.{commands_from};
 ghost use Rattle.script.specs.Records.{records_of};
 ghost use Rattle.script.specs.Results.{Gives, GivesCode, at_place};
 

@@ -23,6 +23,12 @@ pub enum Code {
     How,
     /// A field is no term: it is empty, or has a byte that is no ASCII letter or digit.
     Term,
+    /// A field is no number of callers, which are 1 to 64.
+    Callers,
+    /// A field is no caller of the input.
+    Caller,
+    /// A field is no word of an operation or a query.
+    Op,
     /// The first end of an interval is greater than its last.
     Interval,
 }

@@ -1,5 +1,5 @@
 //! Lines of text: a word, and numbers behind commas.
-ghost use Rattle.std.specs.Prelude.{◌≡◌, ◌++◌, ◌∷◌, ℕ, List, MatchResult, decimal};
+ghost use Rattle.std.specs.Prelude.{◌≡◌, ◌+◌, ◌<◌, ◌≤◌, ◌++◌, ◌∷◌, ℕ, List, MatchResult, OnErr, decimal, length, vec_capacity};
 ghost use Rattle.script.specs.Lines.{IsPrefix, code_word, comma, error_line_of, line_of};
 
 use crate::{BadRecord, Code};
@@ -16,12 +16,17 @@ fn code_word(code: Code) -> &'static str
         Code::Register => "register",
         Code::How => "how",
         Code::Term => "term",
+        Code::Callers => "callers",
+        Code::Caller => "caller",
+        Code::Op => "op",
         Code::Interval => "interval",
     }
 }
 
 fn push_bytes(out: &mut Vec<u8>, bytes: &[u8]) -> Result<(), NoMemory>
-    ensures { MatchResult result (λ _. out.new.items ≡ out.old.items ++ bytes.now) (λ _. out.new.items ≡ out.old.items) }
+    ensures items { MatchResult result (λ _. out.new.items ≡ out.old.items ++ bytes.now) (λ _. out.new.items ≡ out.old.items) }
+    ensures capacity { vec_capacity out.old ≤ vec_capacity out.new }
+    ensures full { OnErr result (vec_capacity out.old < length out.old.items + length bytes.now) }
 {
     match out.extend_from_slice(bytes) {
         Ok(()) => Ok(()),
@@ -30,15 +35,19 @@ fn push_bytes(out: &mut Vec<u8>, bytes: &[u8]) -> Result<(), NoMemory>
 }
 
 fn push_number(out: &mut Vec<u8>, number: u64) -> Result<(), NoMemory>
-    ensures { MatchResult result (λ _. out.new.items ≡ out.old.items ++ decimal number) (λ _. out.new.items ≡ out.old.items) }
+    ensures items { MatchResult result (λ _. out.new.items ≡ out.old.items ++ decimal number) (λ _. out.new.items ≡ out.old.items) }
+    ensures capacity { vec_capacity out.old ≤ vec_capacity out.new }
+    ensures full { OnErr result (vec_capacity out.old < length out.old.items + length (decimal number)) }
 {
     let mut buffer = Buffer::new();
     push_bytes(out, buffer.format(number).as_bytes())
 }
 
-// Appends a comma and a number, or the first part of them.
-fn push_part(out: &mut Vec<u8>, number: u64) -> Result<(), NoMemory>
-    ensures { MatchResult result (λ _. out.new.items ≡ out.old.items ++ comma ∷ decimal number) (λ _. IsPrefix out.old.items out.new.items) }
+/// Appends a comma and a number, or the first part of them.
+pub fn push_part(out: &mut Vec<u8>, number: u64) -> Result<(), NoMemory>
+    ensures items { MatchResult result (λ _. out.new.items ≡ out.old.items ++ comma ∷ decimal number) (λ _. IsPrefix out.old.items out.new.items) }
+    ensures capacity { vec_capacity out.old ≤ vec_capacity out.new }
+    ensures full { OnErr result (vec_capacity out.old < length out.old.items + length (comma ∷ decimal number)) }
 {
     out.push(b',')?;
     push_number(out, number)
@@ -46,7 +55,8 @@ fn push_part(out: &mut Vec<u8>, number: u64) -> Result<(), NoMemory>
 
 // Appends a line, or the first part of it.
 fn append_line(out: &mut Vec<u8>, word: &str, numbers: &[u64]) -> Result<(), NoMemory>
-    ensures { MatchResult result (λ _. out.new.items ≡ out.old.items ++ line_of word.now numbers.now) (λ _. IsPrefix out.old.items out.new.items) }
+    ensures items { MatchResult result (λ _. out.new.items ≡ out.old.items ++ line_of word.now numbers.now) (λ _. IsPrefix out.old.items out.new.items) }
+    ensures full { OnErr result (vec_capacity out.old < length out.old.items + length (line_of word.now numbers.now)) }
 {
     push_bytes(out, word.as_bytes())?;
     for number in numbers {
@@ -55,9 +65,10 @@ fn append_line(out: &mut Vec<u8>, word: &str, numbers: &[u64]) -> Result<(), NoM
     push_bytes(out, b"\n")
 }
 
-/// Appends a line, or nothing.
+/// Appends a line, or nothing. It is not refused where the text has room for it.
 pub fn line(out: &mut Vec<u8>, word: &str, numbers: &[u64]) -> Result<(), NoMemory>
-    ensures { MatchResult result (λ _. out.new.items ≡ out.old.items ++ line_of word.now numbers.now) (λ _. out.new.items ≡ out.old.items) }
+    ensures items { MatchResult result (λ _. out.new.items ≡ out.old.items ++ line_of word.now numbers.now) (λ _. out.new.items ≡ out.old.items) }
+    ensures full { OnErr result (vec_capacity out.old < length out.old.items + length (line_of word.now numbers.now)) }
 {
     let start = out.len();
     let appended = append_line(out, word, numbers);

@@ -7,6 +7,7 @@ ghost use Rattle.script.specs.Results.{Gives};
 use crate::command::read_all;
 use crate::{
     GraphCommand, IndexCommand, IntervalCommand, Items, MapCommand, PointsCommand, ScriptFault,
+    SeqCommand, ServeCommand, serve_commands,
 };
 use std::alloc::Global;
 
@@ -15,6 +16,8 @@ use std::alloc::Global;
 pub enum Tool {
     /// Ordered maps in sixteen registers.
     Map,
+    /// Sequences in sixteen registers.
+    Seq,
     /// A set of intervals.
     Interval,
     /// Points in the plane with weights.
@@ -23,6 +26,8 @@ pub enum Tool {
     Index,
     /// A directed graph and kept snapshots of it.
     Graph,
+    /// One map that callers change by batches and read, side by side.
+    Serve,
     /// Commands of the tool map that are made from a seed and a size. It reads no records.
     Sample,
 }
@@ -31,10 +36,12 @@ pub enum Tool {
 #[derive(Drop)]
 pub enum Parsed {
     Map(Items<MapCommand>),
+    Seq(Items<SeqCommand>),
     Interval(Items<IntervalCommand>),
     Points(Items<PointsCommand>),
     Index(Items<IndexCommand>),
     Graph(Items<GraphCommand>),
+    Serve(Items<ServeCommand>),
 }
 
 /// The commands of a tool's input, or its first bad record. Records are those of `csv` with its
@@ -46,10 +53,12 @@ pub fn commands(alloc: Global, tool: Tool, bytes: &[u8]) -> Result<Parsed, Scrip
 {
     match tool {
         Tool::Map => Ok(Parsed::Map(read_all(alloc, bytes)?)),
+        Tool::Seq => Ok(Parsed::Seq(read_all(alloc, bytes)?)),
         Tool::Interval => Ok(Parsed::Interval(read_all(alloc, bytes)?)),
         Tool::Points => Ok(Parsed::Points(read_all(alloc, bytes)?)),
         Tool::Index => Ok(Parsed::Index(read_all(alloc, bytes)?)),
         Tool::Graph => Ok(Parsed::Graph(read_all(alloc, bytes)?)),
+        Tool::Serve => Ok(Parsed::Serve(serve_commands(alloc, bytes)?)),
         Tool::Sample => Ok(Parsed::Map(Items::new(Vec::new(alloc)))),
     }
 }

@@ -1,6 +1,6 @@
 use Rattle.std.proofs.Common.{◌≡◌}
 use Rattle.script.specs.Records.{records_of}
-use Rattle.script.specs.Commands.{commands_from}
+use Rattle.script.specs.InOrder.{commands_from}
 use Rattle.script.proofs.CommandFacts.{with_front}
 use Rattle.script.proofs.command.read_all.Given as goal
 

@@ -1,6 +1,7 @@
 use Rattle.script.proofs.IndexFacts.{all_terms}
 use Rattle.script.proofs.IntervalFacts.{all_ordered}
 use Rattle.script.proofs.RegisterFacts.{all_lawful}
+use Rattle.script.proofs.SeqFacts.{all_on_lists}
 use Rattle.script.specs.Records.{records_of}
 use Rattle.script.proofs.parsed.commands.Goals as goal
 
@@ -12,3 +13,6 @@ returns-in_ok-read_all-in-Interval-clause-lawful c = rw c.in_ok-read_all-in-Inte
 
 pub returns-in_ok-read_all-in-Index-clause-lawful : goal.returns-in_ok-read_all-in-Index-clause-lawful
 returns-in_ok-read_all-in-Index-clause-lawful c = rw c.in_ok-read_all-in-Index.ensures at (all_terms 1 (records_of c.args.bytes.now))
+
+pub returns-in_ok-read_all-in-Seq-clause-lawful : goal.returns-in_ok-read_all-in-Seq-clause-lawful
+returns-in_ok-read_all-in-Seq-clause-lawful c = rw c.in_ok-read_all-in-Seq.ensures at (all_on_lists 1 (records_of c.args.bytes.now))
