@@ -78,6 +78,7 @@ lawful_words =
     -- each greatest value
     (codes "--workers" ∷ codes "64" ∷ codes "--grain" ∷ codes "4294967296" ∷ codes "--seed" ∷ codes "18446744073709551615" ∷ codes "--size" ∷ codes "1000000" ∷ codes "map" ∷ []) ∷
     -- the other tools
+    (codes "seq" ∷ []) ∷
     (codes "interval" ∷ []) ∷
     (codes "points" ∷ []) ∷
     (codes "index" ∷ []) ∷
@@ -97,6 +98,7 @@ lawful : map settings_of lawful_words ≡
     tool_with tool.Map 4 1024 1 100000 ∷
     tool_with tool.Map 1 1 0 1 ∷
     tool_with tool.Map 64 4294967296 18446744073709551615 1000000 ∷
+    tool_with tool.Seq 4 1024 1 100000 ∷
     tool_with tool.Interval 4 1024 1 100000 ∷
     tool_with tool.Points 4 1024 1 100000 ∷
     tool_with tool.Index 4 1024 1 100000 ∷

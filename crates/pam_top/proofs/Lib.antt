@@ -2,6 +2,7 @@ pub mod Answers
 pub mod Examples
 pub mod Matched
 pub mod Place
+pub mod Plain
 pub mod Registers
 pub mod Rows
 pub mod SampleFacts

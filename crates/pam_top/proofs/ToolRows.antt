@@ -1,4 +1,4 @@
--- What the definitions of the replies of the tools interval, points, index and graph give on worked examples.
+-- What the definitions of the replies of the tools seq, interval, points, index and graph give on worked examples.
 use Rattle.std.proofs.Common.{◌≡◌, [], ◌∷◌, ℕ, codes, refl}
 use Rattle.graph_tool.specs.Effects.{graph_after, graph_reply, no_graphs}
 use Rattle.index_tool.specs.Effects.{index_after, index_reply}
@@ -10,7 +10,29 @@ use Rattle.script.specs.declared.index.IndexCommand.TheVariants as index
 use Rattle.script.specs.declared.interval.IntervalCommand.TheVariants as interval
 use Rattle.script.specs.declared.points.PointsCommand.TheVariants as points
 use Rattle.script.specs.declared.points.Weighed.{Weighed}
+use Rattle.script.specs.declared.seq.SeqCommand.TheVariants as seq
+use Rattle.seq_tool.specs.Effects.{seq_after, seq_reply}
+use Rattle.seq_tool.specs.Registers.{empty_registers}
 use Rattle.pam_top.proofs.Rows.{lines, pair}
+
+-- an appended copy, a sequence turned round, parts of it, and an item that is set where there is one
+sequences : replies seq_reply seq_after empty_registers (
+    seq.Push 1 0 (1 ∷ 2 ∷ 3 ∷ []) ∷
+    seq.Append 2 1 0 0 ∷
+    seq.Reverse 3 2 1 ∷
+    seq.Take 4 3 2 2 ∷
+    seq.Skip 5 4 2 5 ∷
+    seq.List 6 2 0 9 ∷
+    seq.At 7 3 1 ∷
+    seq.At 8 4 1 ∷
+    seq.Fold 9 1 1 3 ∷
+    seq.Set 10 0 3 9 ∷
+    seq.Set 11 0 2 9 ∷
+    seq.List 12 0 1 9 ∷
+    seq.Size 13 0 ∷
+    []) ≡ lines (
+    (codes "ok", 3 ∷ []) ∷ (codes "ok", 6 ∷ []) ∷ (codes "ok", 6 ∷ []) ∷ (codes "ok", 2 ∷ []) ∷ (codes "ok", 1 ∷ []) ∷ (codes "list", 6 ∷ 3 ∷ 2 ∷ 1 ∷ 3 ∷ 2 ∷ 1 ∷ []) ∷ (codes "some", 2 ∷ []) ∷ (codes "none", []) ∷ (codes "aug", 6 ∷ 3 ∷ []) ∷ (codes "none", []) ∷ (codes "ok", 3 ∷ []) ∷ (codes "list", 2 ∷ 2 ∷ 9 ∷ []) ∷ (codes "size", 3 ∷ []) ∷ [])
+sequences = refl
 
 -- both ends of an interval are in it, and intervals may share an end
 intervals : replies interval_reply interval_after [] (

@@ -21,10 +21,12 @@ input_limit = 67108864
 -- whether a tool reads its input
 abbrev pub reads_input : Tool → Bool
 reads_input tool.Map = true
+reads_input tool.Seq = true
 reads_input tool.Interval = true
 reads_input tool.Points = true
 reads_input tool.Index = true
 reads_input tool.Graph = true
+reads_input tool.Serve = true
 reads_input tool.Sample = false
 
 -- a whole input of a tool that is not too large: nothing, for a tool that reads none

@@ -9,11 +9,25 @@ use Rattle.points_tool.specs.Effects.{points_after, points_reply}
 use Rattle.script.specs.Replies.{replies}
 use Rattle.script.specs.declared.parsed.Parsed.{Parsed}
 use Rattle.script.specs.declared.parsed.Parsed.TheVariants as parsed
+use Rattle.seq_tool.specs.Effects.{seq_after, seq_reply}
+use Rattle.seq_tool.specs.Registers as sequences
 
 -- each tool begins with nothing
 abbrev pub IsOutput : Parsed → List ℕ → Type 0
 IsOutput (parsed.Map commands) text = text ≡ replies map_reply map_after empty_registers commands
+IsOutput (parsed.Seq commands) text = text ≡ replies seq_reply seq_after sequences.empty_registers commands
 IsOutput (parsed.Interval commands) text = text ≡ replies interval_reply interval_after [] commands
 IsOutput (parsed.Points commands) text = text ≡ replies points_reply points_after [] commands
 IsOutput (parsed.Index commands) text = text ≡ replies index_reply index_after [] commands
 IsOutput (parsed.Graph commands) text = text ≡ replies graph_reply graph_after no_graphs commands
+IsOutput (parsed.Serve commands) text = ⊥
+
+-- the commands of a tool that does not wait
+abbrev pub IsPlain : Parsed → Type 0
+IsPlain (parsed.Map commands) = Unit {0}
+IsPlain (parsed.Seq commands) = Unit {0}
+IsPlain (parsed.Interval commands) = Unit {0}
+IsPlain (parsed.Points commands) = Unit {0}
+IsPlain (parsed.Index commands) = Unit {0}
+IsPlain (parsed.Graph commands) = Unit {0}
+IsPlain (parsed.Serve commands) = ⊥

@@ -17,6 +17,7 @@ None >>= f = None
 abbrev pub tool_named : Text → Option Tool
 tool_named name =
     if bytes_eq name (codes "map") then Some tool.Map
+    else if bytes_eq name (codes "seq") then Some tool.Seq
     else if bytes_eq name (codes "interval") then Some tool.Interval
     else if bytes_eq name (codes "points") then Some tool.Points
     else if bytes_eq name (codes "index") then Some tool.Index

@@ -1,7 +1,8 @@
 //! The answer to an input that was read whole.
-ghost use Rattle.std.specs.Prelude.{IfOk};
+ghost use Rattle.std.specs.Prelude.{◌≡◌, IfOk};
 ghost use Rattle.script.specs.Lawful.{IsLawful};
 ghost use Rattle.script.specs.Results.{Gives};
+ghost use Rattle.script.specs.declared.parsed.Tool.TheVariants as tool;
 ghost use Rattle.pam_top.specs.Answer.{ToolAnswer, asked_by};
 ghost use Rattle.pam_top.specs.Settings.{IsInRange};
 
@@ -44,7 +45,8 @@ pub(crate) fn answer<R: Threads + Sync, G: Gate>(
     settings: &Settings,
     bytes: &[u8],
 ) -> Result<Reply, NoMemory>
-    requires { IsInRange settings.now }
+    requires range { IsInRange settings.now }
+    requires plain { settings.now.tool ≡ tool.Serve → ⊥ }
     ensures { IfOk result (λ reply. ToolAnswer settings.now bytes.now reply.status reply.text.items) }
 {
     match asked(alloc, settings, bytes) {

@@ -1,7 +1,7 @@
 //! Runs the commands of an input.
 ghost use Rattle.std.specs.Prelude.{IfOk};
 ghost use Rattle.script.specs.Lawful.{IsLawful};
-ghost use Rattle.pam_top.specs.Output.{IsOutput};
+ghost use Rattle.pam_top.specs.Output.{IsOutput, IsPlain};
 
 use aug_monoid::NoMemory;
 use fork_join::{Cut, Gate};
@@ -11,11 +11,12 @@ use interval_tool::run_intervals;
 use map_tool::run_map;
 use points_tool::run_points;
 use script::Parsed;
+use seq_tool::run_seq;
 use std::alloc::Global;
 use std::marker::Sync;
 use std::thread::Threads;
 
-/// The replies to the commands of an input, which depend neither on the runtime nor on the gate nor on the cut.
+/// The replies to the commands of a tool that does not wait, which depend neither on the runtime nor on the gate nor on the cut.
 pub fn run_plain<R: Threads + Sync, G: Gate>(
     rt: &R,
     alloc: Global,
@@ -23,14 +24,17 @@ pub fn run_plain<R: Threads + Sync, G: Gate>(
     cut: Cut,
     commands: &Parsed,
 ) -> Result<Vec<u8>, NoMemory>
-    requires { IsLawful commands.now }
+    requires lawful { IsLawful commands.now }
+    requires plain { IsPlain commands.now }
     ensures { IfOk result (λ text. IsOutput commands.now text.items) }
 {
     match commands {
         Parsed::Map(list) => run_map(rt, alloc, gate, cut, list.items()),
+        Parsed::Seq(list) => run_seq(rt, alloc, gate, cut, list.items()),
         Parsed::Interval(list) => run_intervals(alloc, list.items()),
         Parsed::Points(list) => run_points(rt, alloc, gate, cut, list.items()),
         Parsed::Index(list) => run_index(rt, alloc, gate, cut, list.items()),
         Parsed::Graph(list) => run_graph(rt, alloc, gate, cut, list.items()),
+        Parsed::Serve(_) => unreachable!(),
     }
 }

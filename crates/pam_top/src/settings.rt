@@ -3,6 +3,7 @@ ghost use Rattle.std.specs.Prelude.{◌≡◌, ◌≤◌, IfOk, IfSome, MatchRes
 ghost use Rattle.std.specs.String.{string_bytes};
 ghost use Rattle.clap.specs.Words.{first_of, found_of, rows_of};
 ghost use Rattle.pam_top.specs.Settings.{IsInRange, between, settings_from, settings_of, tool_named, value_in};
+ghost use Rattle.script.specs.declared.parsed.Tool.TheVariants as tool;
 ghost use Rattle.pam_top.specs.declared.words_fault.WordsFault.TheVariants as fault;
 
 use crate::command_line::{matches, with_name};
@@ -23,10 +24,12 @@ pub(crate) struct Settings {
 
 // The tool with this name.
 fn tool_of(name: &str) -> Option<Tool>
-    ensures { result ≡ tool_named name.now }
+    ensures exact { result ≡ tool_named name.now }
+    ensures plain { IfSome result (λ t. t ≡ tool.Serve → ⊥) }
 {
     match name {
         "map" => Some(Tool::Map),
+        "seq" => Some(Tool::Seq),
         "interval" => Some(Tool::Interval),
         "points" => Some(Tool::Points),
         "index" => Some(Tool::Index),
@@ -67,6 +70,7 @@ fn value_of(text: Option<&str>, default: u64, least: u64, most: u64) -> Option<u
 fn settings_in(matches: &ArgMatches<'_>) -> Option<Settings>
     ensures exact { result ≡ settings_from (rows_of (found_of matches.now)) }
     ensures range { IfSome result IsInRange }
+    ensures plain { IfSome result (λ s. s.tool ≡ tool.Serve → ⊥) }
 {
     let tool = tool_of(text_of(matches, "tool")?)?;
     let workers = value_of(text_of(matches, "workers"), 4, 1, 64)? as u32;
@@ -88,6 +92,7 @@ pub(crate) fn read_words(alloc: Global, words: &[String]) -> Result<Settings, Wo
     ensures exact { MatchResult result (λ s. settings_of (map string_bytes words.now) ≡ Some s)
         (λ e. e ≡ fault.Usage → settings_of (map string_bytes words.now) ≡ None) }
     ensures range { IfOk result IsInRange }
+    ensures plain { IfOk result (λ s. s.tool ≡ tool.Serve → ⊥) }
 {
     let list = with_name(alloc, words)?;
     let matches = matches(alloc, &list)?;

@@ -1,0 +1,209 @@
+//! The operations of `seq_bench` in plain Rust, over `Vec` and over `im_rc::Vector`.
+//!
+//! `seqs_baseline OPERATION SIZE SEED vec|vector` writes the checksum of the operation's answer to standard output
+//! and the nanoseconds that it took, without making its input, to standard error.
+use im_rc::Vector;
+use std::time::Instant;
+
+const MULTIPLIER: u64 = 6364136223846793005;
+const INCREMENT: u64 = 1442695040888963407;
+
+/// How many sequences there are of which pairs are appended.
+const PIECES: u64 = 100;
+
+struct Numbers {
+    state: u64,
+}
+
+impl Numbers {
+    fn next(&mut self) -> u64 {
+        self.state = self.state.wrapping_mul(MULTIPLIER).wrapping_add(INCREMENT);
+        self.state
+    }
+
+    fn below(&mut self, bound: u64) -> u64 {
+        (self.next() >> 32) % bound.max(1)
+    }
+
+    fn items(&mut self, count: u64) -> Vec<u64> {
+        let mut items = Vec::new();
+        for _ in 0..count {
+            items.push(self.next() >> 44);
+        }
+        items
+    }
+}
+
+/// Mixes numbers, in their order, into one.
+#[derive(Default)]
+struct Checksum {
+    sum: u64,
+}
+
+impl Checksum {
+    fn add(&mut self, number: u64) {
+        self.sum = self.sum.rotate_left(5).wrapping_mul(MULTIPLIER).wrapping_add(number);
+    }
+}
+
+/// What the operations ask of a sequence, none of which changes it.
+trait Sequence: Sized {
+    fn built(items: &[u64]) -> Self;
+    fn size(&self) -> u64;
+    fn at(&self, place: u64) -> Option<u64>;
+    fn appended(&self, other: &Self) -> Self;
+    fn turned(&self) -> Self;
+    fn run(&self, from: u64, count: u64) -> impl Iterator<Item = u64>;
+}
+
+impl Sequence for Vec<u64> {
+    fn built(items: &[u64]) -> Self {
+        items.to_vec()
+    }
+
+    fn size(&self) -> u64 {
+        self.len() as u64
+    }
+
+    fn at(&self, place: u64) -> Option<u64> {
+        self.get(place as usize).copied()
+    }
+
+    fn appended(&self, other: &Self) -> Self {
+        let mut both = Vec::with_capacity(self.len() + other.len());
+        both.extend_from_slice(self);
+        both.extend_from_slice(other);
+        both
+    }
+
+    fn turned(&self) -> Self {
+        self.iter().rev().copied().collect()
+    }
+
+    fn run(&self, from: u64, count: u64) -> impl Iterator<Item = u64> {
+        self[from as usize..(from + count) as usize].iter().copied()
+    }
+}
+
+impl Sequence for Vector<u64> {
+    fn built(items: &[u64]) -> Self {
+        Vector::from(items)
+    }
+
+    fn size(&self) -> u64 {
+        self.len() as u64
+    }
+
+    fn at(&self, place: u64) -> Option<u64> {
+        self.get(place as usize).copied()
+    }
+
+    fn appended(&self, other: &Self) -> Self {
+        let mut both = self.clone();
+        both.append(other.clone());
+        both
+    }
+
+    fn turned(&self) -> Self {
+        self.iter().rev().copied().collect()
+    }
+
+    fn run(&self, from: u64, count: u64) -> impl Iterator<Item = u64> {
+        self.iter().skip(from as usize).take(count as usize).copied()
+    }
+}
+
+fn report(sum: u64, start: Instant) {
+    let taken = start.elapsed().as_nanos();
+    println!("{sum}");
+    eprintln!("{taken}");
+}
+
+/// The time since a start, and the checksum of all items of what it took to make.
+fn made<S: Sequence>(seq: &S, start: Instant) {
+    let taken = start.elapsed().as_nanos();
+    let mut checksum = Checksum::default();
+    seq.run(0, seq.size()).for_each(|item| checksum.add(item));
+    println!("{}", checksum.sum);
+    eprintln!("{taken}");
+}
+
+fn random<S: Sequence>(numbers: &mut Numbers, size: u64) -> S {
+    S::built(&numbers.items(size))
+}
+
+fn build<S: Sequence>(numbers: &mut Numbers, size: u64) {
+    let items = numbers.items(size);
+    let start = Instant::now();
+    made(&S::built(&items), start);
+}
+
+fn reverse<S: Sequence>(numbers: &mut Numbers, size: u64) {
+    let seq: S = random(numbers, size);
+    let start = Instant::now();
+    made(&seq.turned(), start);
+}
+
+fn append<S: Sequence>(numbers: &mut Numbers, size: u64) {
+    let pieces: Vec<S> = (0..PIECES).map(|_| random(numbers, size / PIECES)).collect();
+    let start = Instant::now();
+    let mut checksum = Checksum::default();
+    for _ in 0..size / 10 {
+        let front = &pieces[numbers.below(PIECES) as usize];
+        let back = &pieces[numbers.below(PIECES) as usize];
+        let both = front.appended(back);
+        checksum.add(both.at(numbers.below(both.size())).unwrap_or(0));
+    }
+    report(checksum.sum, start);
+}
+
+fn at<S: Sequence>(numbers: &mut Numbers, size: u64) {
+    let seq: S = random(numbers, size);
+    let start = Instant::now();
+    let mut checksum = Checksum::default();
+    for _ in 0..seq.size() {
+        checksum.add(seq.at(numbers.below(seq.size())).unwrap_or(0));
+    }
+    report(checksum.sum, start);
+}
+
+/// Sums of runs of half of the items.
+fn fold<S: Sequence>(numbers: &mut Numbers, size: u64) {
+    let seq: S = random(numbers, size);
+    let start = Instant::now();
+    let mut checksum = Checksum::default();
+    let half = seq.size() / 2;
+    for _ in 0..(seq.size() / 10_000).max(1) {
+        let (mut sum, mut greatest) = (0u64, 0u64);
+        for item in seq.run(numbers.below(half), half) {
+            sum = sum.saturating_add(item);
+            greatest = greatest.max(item);
+        }
+        checksum.add(sum);
+        checksum.add(greatest);
+    }
+    report(checksum.sum, start);
+}
+
+fn run<S: Sequence>(operation: &str, size: u64, seed: u64) {
+    let mut numbers = Numbers { state: seed };
+    match operation {
+        "build" => build::<S>(&mut numbers, size),
+        "append" => append::<S>(&mut numbers, size),
+        "reverse" => reverse::<S>(&mut numbers, size),
+        "at" => at::<S>(&mut numbers, size),
+        "fold" => fold::<S>(&mut numbers, size),
+        other => panic!("no operation {other}"),
+    }
+}
+
+fn main() {
+    let words: Vec<String> = std::env::args().collect();
+    let size: u64 = words[2].parse().expect("a size");
+    let seed: u64 = words[3].parse().expect("a seed");
+    match words[4].as_str() {
+        "vec" => run::<Vec<u64>>(&words[1], size, seed),
+        "vector" => run::<Vector<u64>>(&words[1], size, seed),
+        other => panic!("no sequence {other}"),
+    }
+}
