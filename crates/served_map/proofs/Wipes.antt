@@ -1,9 +1,9 @@
 -- A range that is wiped.
-use Rattle.std.proofs.Common.{◌≡◌, ℕ, ◌<◌, ◌≤◌, ◌||◌, Bool, true, false, cond, List, ◌++◌, Option, Some, None, nat_lt, refl, sym, ap, ap₂, ◌∙◌, arith}
+use Rattle.std.proofs.Common.{◌≡◌, ℕ, ◌<◌, ◌≤◌, ◌||◌, Bool, true, false, cond, List, ◌++◌, Option, Some, None, nat_lt, refl, sym, ap₂, ◌∙◌, arith}
 use Rattle.std.proofs.lemmas.Bool.Decides.{nat_tests}
 use Rattle.std.specs.Cmp.{nat_cmp_total}
 use Rattle.std.specs.Option.{option_or}
-use Rattle.std.specs.Ordering.{nat_cmp, is_gt, is_lt}
+use Rattle.std.specs.Ordering.{nat_cmp}
 use Rattle.std.specs.declared.cmp.Ordering.TheVariants.{Less}
 use Rattle.map_model.specs.Entries.{AllAbove, IsBefore, IsIncreasing, above, below, lookup}
 use Rattle.map_model.proofs.Filters.{filter-all_keys}
@@ -11,7 +11,7 @@ use Rattle.map_model.proofs.Keys.{AllKeys-all, AllKeys-map, IsIncreasing-append,
 use Rattle.map_model.proofs.Lookups.{equal_lookups, lookup-above, lookup-append, lookup-below, lookup-filter_keys}
 use Rattle.map_model.proofs.NatKeys.{is_gt-nat_cmp, is_lt-nat_cmp, less-nat_cmp, lt_from_less, nat_exact}
 use Rattle.map_model.proofs.Splits.{AllKeys-above, AllKeys-below, IsIncreasing-above, IsIncreasing-below}
-use Rattle.served_map.specs.Steps.{wiped}
+use Rattle.op_runs.specs.Steps.{wiped}
 
 -- no key is both at least lo and at most hi, where lo is greater
 outside : (lo hi k : ℕ) → hi < lo → (nat_lt k lo || nat_lt hi k) ≡ true

@@ -1,14 +1,12 @@
 //! Operations applied one after another.
-ghost use Rattle.std.specs.Prelude.{◌≡◌, ◌<◌, IfOk, fold};
-ghost use Rattle.versions.specs.History.{after};
-ghost use Rattle.served_map.specs.Steps.{step, wiped};
+ghost use Rattle.std.specs.Prelude.{◌≡◌, IfOk, fold};
+ghost use Rattle.op_runs.specs.Steps.{step, wiped};
 
-use crate::op::Op;
 use aug_map::CodedMap;
 use aug_monoid::{NoMemory, SatSum, Share, Steps, SumMax};
+use op_runs::Op;
 use std::alloc::Global;
-use std::sync::ledger::{Blank, Ledger};
-use versions::Batch;
+use std::sync::ledger::Ledger;
 
 pub(crate) type ServedMap = CodedMap<SumMax<u64>>;
 
@@ -32,7 +30,7 @@ pub(crate) fn without_range<C: Ledger>(
 }
 
 /// Applies an operation.
-fn apply_one<C: Ledger>(
+pub(crate) fn apply_one<C: Ledger>(
     alloc: Global,
     map: &mut ServedMap,
     op: &Op,
@@ -52,8 +50,8 @@ fn apply_one<C: Ledger>(
     }
 }
 
-/// Applies operations in order.
-fn apply_all<C: Ledger>(
+/// Applies operations in order, one by one in place.
+pub(crate) fn apply_all<C: Ledger>(
     alloc: Global,
     map: &mut ServedMap,
     ops: &[Op],
@@ -65,24 +63,4 @@ fn apply_all<C: Ledger>(
         apply_one(alloc, map, op, steps)?;
     }
     Ok(())
-}
-
-/// The map after the operations of the batches in order.
-pub(crate) fn applied<C: Ledger>(
-    alloc: Global,
-    map: &ServedMap,
-    batches: &[Batch<Op>],
-    blank: Blank,
-) -> Result<ServedMap, NoMemory>
-    requires name { blank.name ≡ C.name }
-    requires parts { blank.parts ≡ C.parts }
-    requires some { 0 < blank.parts }
-    ensures { IfOk result (λ changed. changed.entries ≡ after step map.now.entries batches.now) }
-{
-    let mut steps = Steps::<C>::start(blank);
-    let mut changed = map.share(alloc)?;
-    for batch in batches {
-        apply_all(alloc, &mut changed, batch.ops(), &mut steps)?;
-    }
-    Ok(changed)
 }

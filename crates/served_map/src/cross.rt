@@ -1,6 +1,6 @@
 //! Served maps and their operations cross threads.
-use crate::op::Op;
 use crate::served::Served;
+use op_runs::Op;
 use std::marker::{Send, Sync};
 use versions::SyncState;
 

@@ -4,10 +4,10 @@
 #![tactic(auto)]
 
 mod applying;
+mod bulk;
 mod cross;
-mod op;
 mod served;
 
 pub use cross::served_crosses;
-pub use op::Op;
-pub use served::Served;
+pub use op_runs::Op;
+pub use served::{Served, change_by};

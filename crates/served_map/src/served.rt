@@ -1,15 +1,15 @@
 //! The served map.
-ghost use Rattle.std.specs.Prelude.{◌≡◌, []};
-ghost use Rattle.served_map.specs.Steps.{step};
+ghost use Rattle.std.specs.Prelude.{◌≡◌, [], IfOk};
+ghost use Rattle.op_runs.specs.Steps.{step};
+ghost use Rattle.versions.specs.History.{after};
 
-use crate::applying::applied;
-use crate::op::Op;
+use crate::bulk::applied;
 use aug_map::CodedMap;
 use aug_monoid::{NoMemory, Share, SumMax};
-use fork_join::Cut;
+use fork_join::{Cut, FreeGate, Gate};
+use op_runs::Op;
 use std::alloc::Global;
-use std::marker::{Brand, Model, Sync};
-use std::sync::ledger::Blank;
+use std::marker::{Model, Sync};
 use std::thread::Threads;
 use versions::{Batch, State};
 
@@ -66,14 +66,31 @@ impl State for Served {
 
     ghost step = { step };
 
+    /// Operations between two wipes are sorted by their keys, on all processors where there are many, composed for each key and
+    /// done at once by `multi_put`, `multi_del` and `union`, forked within the cut: for n operations and a map of m entries
+    /// O(n * log(n + m)). Few are applied one by one, and so is each wipe, in O(log m).
     fn change<R: Threads + Sync>(
         &self,
-        _rt: &R,
+        rt: &R,
         alloc: Global,
-        _cut: Cut,
+        cut: Cut,
         batches: &[Batch<Op>],
     ) -> Result<Served, NoMemory> {
-        let map = applied::<Brand>(alloc, &self.map, batches, Blank::new(1))?;
-        Ok(Served { map })
+        change_by(rt, alloc, &FreeGate, cut, self, batches)
     }
+}
+
+/// What `change` answers. Its forks enter the gate.
+pub fn change_by<R: Threads + Sync, G: Gate>(
+    rt: &R,
+    alloc: Global,
+    gate: &G,
+    cut: Cut,
+    served: &Served,
+    batches: &[Batch<Op>],
+) -> Result<Served, NoMemory>
+    ensures { IfOk result (λ state. state ≡ after step served.now batches.now) }
+{
+    let map = applied(rt, alloc, gate, cut, &served.map, batches)?;
+    Ok(Served { map })
 }

@@ -1,6 +1,6 @@
 use Rattle.std.proofs.Common.{◌≡◌, take}
 use Rattle.std.specs.Prelude.{fold}
-use Rattle.served_map.specs.Steps.{step}
+use Rattle.op_runs.specs.Steps.{step}
 use Rattle.served_map.proofs.applying.apply_all.Given as goal
 
 abbrev pub invariant-loop-op : goal.invariant-loop-op

@@ -1,7 +1,5 @@
 use Rattle.std.proofs.Common.{ap, sym, ◌∙◌, ap₂, ◌++◌, arith}
 use Rattle.std.proofs.lemmas.Result.{IfOk-weaker}
-use Rattle.map_model.specs.Entries.{IsBefore}
-use Rattle.std.specs.Ordering.{nat_cmp}
 use Rattle.served_map.proofs.Wipes.{sides_apart, wiped_none, wiped_sides}
 use Rattle.served_map.proofs.applying.without_range.Goals as goal
 

@@ -1,0 +1,7 @@
+mod Lists
+mod OutcomeLaws
+mod RunLaws
+mod KeptOrder
+mod Merging
+mod PartLaws
+mod NetLaws

@@ -1,0 +1,12 @@
+//! Operations and outcomes cross threads.
+use crate::op::Op;
+use crate::outcome::Outcome;
+use std::marker::{Send, Sync};
+
+fn crosses<T: Send + Sync>(_value: &T) {}
+
+/// Operations and outcomes are sent to and shared among threads.
+pub fn op_crosses(op: &Op, outcome: &Outcome) {
+    crosses(op);
+    crosses(outcome);
+}

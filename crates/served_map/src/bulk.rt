@@ -1,0 +1,179 @@
+//! Operations applied in runs: those between two wipes at once.
+ghost use Rattle.std.specs.Prelude.{◌≡◌, ◌<◌, IfOk, fold, length};
+ghost use Rattle.std.specs.List.{All, flat_map};
+ghost use Rattle.std.specs.Ordering.{nat_cmp};
+ghost use Rattle.map_model.specs.Operations.{after as changed_by, build, dels, puts};
+ghost use Rattle.map_model.specs.SetOperations.{union};
+ghost use Rattle.op_runs.specs.Outcomes.{sat_sum};
+ghost use Rattle.op_runs.specs.Steps.{IsSingle, step};
+ghost use Rattle.versions.specs.History.{after};
+
+use crate::applying::{ServedMap, apply_all, apply_one};
+use aug_monoid::{NoMemory, SatSum, Share, Steps};
+use fork_join::{Cut, Gate};
+use op_runs::{Net, Op, net_of, split_at_wipe};
+use std::alloc::Global;
+use std::marker::{Brand, Sync};
+use std::sync::ledger::{Blank, Ledger};
+use std::thread::Threads;
+use versions::Batch;
+
+/// So many operations between two wipes are applied one by one in place. To sort them and to unite maps of them takes longer.
+const FEW_OPS: usize = 64;
+
+/// The map with these puts, and then without these keys.
+fn put_and_removed<R: Threads + Sync, G: Gate>(
+    rt: &R,
+    alloc: Global,
+    gate: &G,
+    cut: Cut,
+    map: &ServedMap,
+    net: &Net,
+) -> Result<ServedMap, NoMemory>
+    ensures { IfOk result (λ less. less.entries ≡ changed_by nat_cmp (changed_by nat_cmp map.now.entries (puts net.now.puts.items)) (dels net.now.removals.items)) }
+{
+    let put = map.multi_put(rt, alloc, gate, cut, &net.puts)?;
+    put.multi_del(rt, alloc, gate, cut, &net.removals)
+}
+
+/// The map with these sums added.
+fn with_sums<R: Threads + Sync, G: Gate>(
+    rt: &R,
+    alloc: Global,
+    gate: &G,
+    cut: Cut,
+    map: &ServedMap,
+    pairs: &[(u64, u64)],
+) -> Result<ServedMap, NoMemory>
+    ensures { IfOk result (λ more. more.entries ≡ union nat_cmp sat_sum map.now.entries (build nat_cmp pairs.now)) }
+{
+    let sums = ServedMap::build(rt, alloc, gate, cut, pairs)?;
+    map.union(rt, alloc, gate, cut, &sums, &SatSum)
+}
+
+/// The map after operations without wipes: they are composed for each key, and what they come to is done at once.
+fn at_once<R: Threads + Sync, G: Gate>(
+    rt: &R,
+    alloc: Global,
+    gate: &G,
+    cut: Cut,
+    map: &ServedMap,
+    ops: &[Op],
+) -> Result<ServedMap, NoMemory>
+    requires singles { All IsSingle ops.now }
+    ensures { IfOk result (λ changed. changed.entries ≡ fold step map.now.entries ops.now) }
+{
+    let _rises = map.size();
+    let net = net_of(rt, alloc, ops)?;
+    let less = put_and_removed(rt, alloc, gate, cut, map, &net)?;
+    with_sums(rt, alloc, gate, cut, &less, &net.additions)
+}
+
+/// Applies operations without wipes.
+fn apply_run<R: Threads + Sync, G: Gate, C: Ledger>(
+    rt: &R,
+    alloc: Global,
+    gate: &G,
+    cut: Cut,
+    map: &mut ServedMap,
+    ops: &[Op],
+    steps: &mut Steps<C>,
+) -> Result<(), NoMemory>
+    requires singles { All IsSingle ops.now }
+    ensures { IfOk result (λ _. map.new.entries ≡ fold step map.old.entries ops.now) }
+{
+    if ops.len() <= FEW_OPS {
+        return apply_all(alloc, map, ops, steps);
+    }
+    let changed = at_once(rt, alloc, gate, cut, map, ops)?;
+    *map = changed;
+    Ok(())
+}
+
+/// Applies operations up to the first wipe and with it. Answers what follows.
+fn apply_part<'a, R: Threads + Sync, G: Gate, C: Ledger>(
+    rt: &R,
+    alloc: Global,
+    gate: &G,
+    cut: Cut,
+    map: &mut ServedMap,
+    ops: &'a [Op],
+    steps: &mut Steps<C>,
+) -> Result<&'a [Op], NoMemory>
+    ensures applied { IfOk result (λ rest. fold step map.new.entries rest.now ≡ fold step map.old.entries ops.now) }
+    ensures shorter { IfOk result (λ rest. 0 < length ops.now → length rest.now < length ops.now) }
+{
+    let (run, tail): (&[Op], &[Op]) = split_at_wipe(ops);
+    apply_run(rt, alloc, gate, cut, map, run, steps)?;
+    let Some((wipe, rest)) = tail.split_first() else {
+        return Ok(tail);
+    };
+    apply_one(alloc, map, wipe, steps)?;
+    Ok(rest)
+}
+
+/// Applies operations in order, part by part.
+fn apply_parts<R: Threads + Sync, G: Gate, C: Ledger>(
+    rt: &R,
+    alloc: Global,
+    gate: &G,
+    cut: Cut,
+    map: &mut ServedMap,
+    ops: &[Op],
+    steps: &mut Steps<C>,
+) -> Result<(), NoMemory>
+    ensures { IfOk result (λ _. map.new.entries ≡ fold step map.old.entries ops.now) }
+{
+    let mut rest = ops;
+    while !rest.is_empty() {
+        rest = apply_part(rt, alloc, gate, cut, map, rest, steps)?;
+    }
+    Ok(())
+}
+
+/// The operations of the batches in order.
+fn ops_of(alloc: Global, batches: &[Batch<Op>]) -> Result<Vec<Op>, NoMemory>
+    ensures { IfOk result (λ ops. ops.items ≡ flat_map (λ batch. batch) batches.now) }
+{
+    let mut ops = Vec::new(alloc);
+    for batch in batches {
+        ops.extend_from_slice(batch.ops())?;
+    }
+    Ok(ops)
+}
+
+/// The map after the operations of the batches in order.
+pub(crate) fn applied<R: Threads + Sync, G: Gate>(
+    rt: &R,
+    alloc: Global,
+    gate: &G,
+    cut: Cut,
+    map: &ServedMap,
+    batches: &[Batch<Op>],
+) -> Result<ServedMap, NoMemory>
+    ensures { IfOk result (λ changed. changed.entries ≡ after step map.now.entries batches.now) }
+{
+    let ops = ops_of(alloc, batches)?;
+    applied_counted::<R, G, Brand>(rt, alloc, gate, cut, map, &ops, Blank::new(1))
+}
+
+/// The map after operations in order.
+fn applied_counted<R: Threads + Sync, G: Gate, C: Ledger>(
+    rt: &R,
+    alloc: Global,
+    gate: &G,
+    cut: Cut,
+    map: &ServedMap,
+    ops: &[Op],
+    blank: Blank,
+) -> Result<ServedMap, NoMemory>
+    requires name { blank.name ≡ C.name }
+    requires parts { blank.parts ≡ C.parts }
+    requires some { 0 < blank.parts }
+    ensures { IfOk result (λ changed. changed.entries ≡ fold step map.now.entries ops.now) }
+{
+    let mut steps = Steps::<C>::start(blank);
+    let mut changed = map.share(alloc)?;
+    apply_parts(rt, alloc, gate, cut, &mut changed, ops, &mut steps)?;
+    Ok(changed)
+}
