@@ -1,0 +1,126 @@
+//! What a served map answers.
+ghost use Rattle.std.specs.Prelude.{◌≡◌, ◌<◌, ◌++◌, ◌∷◌, [], IfOk, OnOk, length};
+ghost use Rattle.std.specs.Ordering.{nat_cmp};
+ghost use Rattle.map_model.specs.Entries.{lookup};
+ghost use Rattle.map_model.specs.Parts.{rank};
+ghost use Rattle.serve_answers.specs.Answering as answering;
+ghost use Rattle.serve_answers.specs.Answering.{answer_of, last_of, range_totals, reply_of, totals_of};
+
+use crate::served::ServedMap;
+use aug_map::CodedMap;
+use aug_monoid::{NoMemory, Steps, SumMax, Totals};
+use script::{ServeQuery, line, push_part};
+use serve_text::Answers;
+use std::alloc::Global;
+use std::marker::Brand;
+use std::sync::ledger::{Blank, Ledger};
+
+type CodedTotals = CodedMap<SumMax<u64>>;
+
+/// Appends a word, and a comma and a number for each number.
+fn reply(out: &mut Vec<u8>, word: &str, numbers: &[u64]) -> Result<(), NoMemory>
+    ensures { OnOk result (out.new.items ≡ out.old.items ++ reply_of word.now numbers.now) }
+{
+    out.extend_from_slice(word.as_bytes())?;
+    for number in numbers {
+        push_part(out, *number)?;
+    }
+    Ok(())
+}
+
+fn get<C: Ledger>(
+    alloc: Global,
+    map: &CodedTotals,
+    k: u64,
+    steps: &mut Steps<C>,
+    out: &mut Vec<u8>,
+) -> Result<(), NoMemory>
+    ensures { OnOk result (out.new.items ≡ out.old.items ++ answering.found_reply (lookup nat_cmp map.now.entries k)) }
+{
+    match map.get(alloc, &k, steps)? {
+        Some(val) => reply(out, "some", &[val]),
+        None => reply(out, "none", &[]),
+    }
+}
+
+// The totals of a range of keys.
+#[tactic(auto, unfolding(crate::specs::Answering::range_totals))]
+fn totals_within<C: Ledger>(
+    alloc: Global,
+    map: &CodedTotals,
+    lo: u64,
+    hi: u64,
+    steps: &mut Steps<C>,
+) -> Result<Totals, NoMemory>
+    ensures { IfOk result (λ totals. totals ≡ range_totals map.now.entries lo hi) }
+{
+    map.aug_range(alloc, &lo, &hi, steps)
+}
+
+// The totals of all entries.
+#[tactic(auto, unfolding(crate::specs::Answering::totals_of))]
+fn totals(map: &CodedTotals) -> Totals
+    ensures { result ≡ totals_of map.now.entries }
+{
+    match map.aug() {
+        Some(fold) => *fold,
+        None => Totals {
+            sum: 0,
+            greatest: 0,
+        },
+    }
+}
+
+fn sum<C: Ledger>(
+    alloc: Global,
+    map: &CodedTotals,
+    lo: u64,
+    hi: u64,
+    steps: &mut Steps<C>,
+    out: &mut Vec<u8>,
+) -> Result<(), NoMemory>
+    ensures { OnOk result (out.new.items ≡ out.old.items ++ answering.totals_reply (range_totals map.now.entries lo hi)) }
+{
+    let within = totals_within(alloc, map, lo, hi, steps)?;
+    reply(out, "aug", &[within.sum, within.greatest])
+}
+
+/// Appends what the map answers.
+fn answer<C: Ledger>(
+    alloc: Global,
+    map: &CodedTotals,
+    query: &ServeQuery,
+    out: &mut Vec<u8>,
+    blank: Blank,
+) -> Result<(), NoMemory>
+    requires name { blank.name ≡ C.name }
+    requires parts { blank.parts ≡ C.parts }
+    requires some { 0 < blank.parts }
+    ensures { OnOk result (out.new.items ≡ out.old.items ++ answer_of map.now.entries query.now) }
+{
+    let mut steps = Steps::<C>::start(blank);
+    match *query {
+        ServeQuery::Get { k } => get(alloc, map, k, &mut steps, out),
+        ServeQuery::Sum { lo, hi } => sum(alloc, map, lo, hi, &mut steps, out),
+        ServeQuery::Rank { k } => reply(out, "rank", &[map.rank(&k, &mut steps)]),
+        ServeQuery::Size => reply(out, "size", &[map.size()]),
+    }
+}
+
+impl Answers for ServedMap {
+    type Query = ServeQuery;
+
+    ghost answer_of = { answer_of };
+
+    ghost last_of = { last_of };
+
+    fn answer(&self, alloc: Global, query: &ServeQuery, out: &mut Vec<u8>) -> Result<(), NoMemory> {
+        answer::<Brand>(alloc, self.map(), query, out, Blank::new(1))
+    }
+
+    fn write_last(&self, _alloc: Global, out: &mut Vec<u8>) -> Result<(), NoMemory> {
+        let map = self.map();
+        let all = totals(map);
+        line(out, "final", &[map.size(), all.sum, all.greatest])
+    }
+}

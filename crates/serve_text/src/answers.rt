@@ -1,0 +1,27 @@
+//! States that answer queries by text.
+ghost use Rattle.std.specs.Prelude.{◌≡◌, ◌++◌, ℕ, List, OnOk};
+
+use aug_monoid::NoMemory;
+use std::alloc::Global;
+use std::marker::{Send, Sync};
+use versions::SyncState;
+
+/// A state that answers queries, each by one line of text.
+pub trait Answers: SyncState {
+    /// What can be asked.
+    type Query: Drop + Send + Sync;
+
+    /// The answer, without a line feed.
+    ghost answer_of: { Self → Self.Query → List ℕ };
+
+    /// The last line of a text that ends in this state, with its line feed.
+    ghost last_of: { Self → List ℕ };
+
+    /// Appends the answer.
+    fn answer(&self, alloc: Global, query: &Self::Query, out: &mut Vec<u8>) -> Result<(), NoMemory>
+        ensures { OnOk result (out.new.items ≡ out.old.items ++ answer_of self.now query.now) };
+
+    /// Appends the last line.
+    fn write_last(&self, alloc: Global, out: &mut Vec<u8>) -> Result<(), NoMemory>
+        ensures { OnOk result (out.new.items ≡ out.old.items ++ last_of self.now) };
+}
