@@ -17,12 +17,12 @@ use Rattle.map_model.specs.Entries.{AllAbove, IsIncreasing, lookup}
 use Rattle.map_model.specs.Operations.{build, last_at}
 use Rattle.map_model.specs.SetOperations.{union}
 use Rattle.map_model.proofs.Differences.{IsIncreasing-difference, lookup-difference}
-use Rattle.map_model.proofs.Lookups.{equal_lookups, first_found, option_or-none}
+use Rattle.map_model.proofs.Lookups.{equal_lookups, first_found, lookup-append, option_or-none}
 use Rattle.map_model.proofs.NatKeys.{is_eq-nat_cmp, nat_exact}
 use Rattle.map_model.proofs.Operations.{IsIncreasing-build, lookup-after_puts}
 use Rattle.map_model.proofs.Unions.{IsIncreasing-union, lookup-union, united}
 use Rattle.graph_snap.specs.Edges.{Sets, edge_order, edges_of, elements, set_at}
-use Rattle.graph_snap.specs.Merging.{at_distance, neighbours_of, next_front, set_in_order}
+use Rattle.graph_snap.specs.Merging.{at_distance, neighbours_of, next_front}
 use Rattle.graph_snap.specs.Walks.{distances, least, walk}
 use Rattle.graph_snap.proofs.Levels.{any_found, at_level, least_some, level, level_bound, next_level, none_left, same_bool, settled}
 use Rattle.graph_snap.proofs.Sets.{edge_exact, edge_in, edge_total, found-edges_of, found-set_at, keys-elements, last-element}
@@ -57,30 +57,29 @@ any_agree p q same (x ∷ xs) = ap₂ (λ a b. a || b) (same x) (any_agree p q s
 
 -- ---- the neighbours of a front
 
-is_some-united : {V : Type 0} (o p : Option V) → is_some (united (λ x y. x) o p) ≡ (is_some o || is_some p)
-is_some-united None None = refl
-is_some-united None (Some b) = refl
-is_some-united (Some a) None = refl
-is_some-united (Some a) (Some b) = refl
+is_some-or : {V : Type 0} (o p : Option V) → is_some (option_or o p) ≡ (is_some o || is_some p)
+is_some-or None p = refl
+is_some-or (Some a) p = refl
 
 module _ (sets : Sets) where
-  neighbours_rise : (front : List (ℕ × ℕ)) → IsIncreasing nat_cmp (neighbours_of sets front)
-  neighbours_rise [] = tt
-  neighbours_rise (e ∷ front) = IsIncreasing-union nat_cmp_total (λ x y. x) (set_in_order sets e.0) (neighbours_of sets front) (IsIncreasing-build nat_cmp_total (set_at sets e.0))
+  -- the sets of a front's vertices, one behind the other
+  abbrev gathered : List (ℕ × ℕ) → List (ℕ × Unit {0})
+  gathered front = flat_map (λ e. set_at sets e.0) front
 
-  found-in_order : (u v : ℕ) → lookup nat_cmp (set_in_order sets u) v ≡ edge_in sets u v
-  found-in_order u v =
-      lookup-after_puts nat_cmp_total nat_exact (set_at sets u) [] v
-      ∙ option_or-none (last_at nat_cmp (set_at sets u) v)
-      ∙ last-element nat_cmp (set_at sets u) v
-      ∙ found-set_at sets u u v (tied_itself nat_cmp_total u)
+  neighbours_rise : (front : List (ℕ × ℕ)) → IsIncreasing nat_cmp (neighbours_of sets front)
+  neighbours_rise front = IsIncreasing-build nat_cmp_total (gathered front)
+
+  found-gathered : (front : List (ℕ × ℕ)) (v : ℕ) → is_some (lookup nat_cmp (gathered front) v) ≡ list_any (λ e. is_some (edge_in sets e.0 v)) front
+  found-gathered [] v = refl
+  found-gathered (e ∷ front) v =
+      ap is_some (lookup-append nat_cmp (set_at sets e.0) (gathered front) v)
+      ∙ is_some-or (lookup nat_cmp (set_at sets e.0) v) (lookup nat_cmp (gathered front) v)
+      ∙ ap₂ (λ a b. a || b) (ap is_some (found-set_at sets e.0 e.0 v (tied_itself nat_cmp_total e.0))) (found-gathered front v)
 
   found-neighbours : (front : List (ℕ × ℕ)) (v : ℕ) → is_some (lookup nat_cmp (neighbours_of sets front) v) ≡ list_any (λ e. is_some (edge_in sets e.0 v)) front
-  found-neighbours [] v = refl
-  found-neighbours (e ∷ front) v =
-      ap is_some (lookup-union nat_cmp_total nat_exact (λ x y. x) (set_in_order sets e.0) (neighbours_of sets front) v (neighbours_rise front))
-      ∙ is_some-united (lookup nat_cmp (set_in_order sets e.0) v) (lookup nat_cmp (neighbours_of sets front) v)
-      ∙ ap₂ (λ a b. a || b) (ap is_some (found-in_order e.0 v)) (found-neighbours front v)
+  found-neighbours front v =
+      ap is_some (lookup-after_puts nat_cmp_total nat_exact (gathered front) [] v ∙ option_or-none (last_at nat_cmp (gathered front) v) ∙ last-element nat_cmp (gathered front) v)
+      ∙ found-gathered front v
 
   -- they are where an edge leads from the front
   neighbours-edges : (front : List (ℕ × ℕ)) (v : ℕ) → IsIncreasing nat_cmp sets → is_some (lookup nat_cmp (neighbours_of sets front) v) ≡ list_any (λ e. e.1 == v && is_some (lookup nat_cmp front e.0)) (edges_of sets)

@@ -2,7 +2,7 @@
 use Rattle.std.proofs.Common.{◌≡◌, ◌∙◌, ◌+◌, ◌<◌, ◌≤◌, ◌++◌, ◌∷◌, ◌==◌, [], ℕ, suc, Bool, true, false, cond, List, None, Some, length, map, take, drop, get_or, slice_get, refl, sym, ap, ap₂, subst, arith, append_assoc, take-append-drop, eq-eqb}
 use Rattle.std.specs.declared.cmp.Ordering.{Ordering}
 use Rattle.std.specs.declared.cmp.Ordering.TheVariants.{Less, Equal, Greater}
-use Rattle.std.specs.List.{filter}
+use Rattle.std.specs.List.{filter, flat_map}
 use Rattle.std.specs.Map.{keys_of}
 use Rattle.std.specs.Option.{option_or}
 use Rattle.std.specs.Ordering.{is_eq, is_gt, is_lt, nat_cmp, ordering_then}
@@ -21,7 +21,7 @@ use Rattle.map_model.proofs.Keys.{AllKeys-append, AllKeys-map, IsBefore-from_app
 use Rattle.map_model.proofs.Lookups.{lookup-append}
 use Rattle.map_model.proofs.NatKeys.{nat_exact}
 use Rattle.map_model.proofs.Operations.{build-increasing}
-use Rattle.graph_snap.specs.Batches.{as_keys, as_pairs, ends, run}
+use Rattle.graph_snap.specs.Batches.{as_key, as_pairs, ends, run}
 use Rattle.graph_snap.specs.Edges.{AreSets, IsFilled, IsGraph, Sets, edge_order, edges_of, elements, pairs_of, with_edges}
 use Rattle.graph_snap.specs.declared.edge.Edge.{Edge}
 use Rattle.graph_snap.proofs.Sets.{fan}
@@ -61,17 +61,27 @@ keys-renamed : (m : List (Pair64 × Unit {0})) → as_pairs m ≡ keys_of (renam
 keys-renamed [] = refl
 keys-renamed (e ∷ m) = ap (λ x. (e.0.first, e.0.second) ∷ x) (keys-renamed m)
 
-keys-edges : (list : List Edge) → renamed pair64_cmp edge_order pair_of (λ a b. refl) (as_keys list) ≡ elements (pairs_of list)
+-- the keys of edges, one behind the other
+abbrev keys_of_edges : List Edge → List (Pair64 × Unit {0})
+keys_of_edges list = flat_map (λ e. as_key e ∷ []) list
+
+keys-edges : (list : List Edge) → renamed pair64_cmp edge_order pair_of (λ a b. refl) (keys_of_edges list) ≡ elements (pairs_of list)
 keys-edges [] = refl
 keys-edges (e ∷ list) = ap (λ x. ((e.from, e.to), tt) ∷ x) (keys-edges list)
 
-pub ordered_pairs : (list : List Edge) → as_pairs (build pair64_cmp (as_keys list)) ≡ with_edges [] (pairs_of list)
+pub ordered_pairs : (list : List Edge) → as_pairs (build pair64_cmp (keys_of_edges list)) ≡ with_edges [] (pairs_of list)
 ordered_pairs list =
-    keys-renamed (build pair64_cmp (as_keys list))
-    ∙ ap keys_of (after-renamed pair64_cmp edge_order pair_of (λ a b. refl) (as_keys list) [] ∙ ap (λ x. after edge_order [] (puts x)) (keys-edges list))
+    keys-renamed (build pair64_cmp (keys_of_edges list))
+    ∙ ap keys_of (after-renamed pair64_cmp edge_order pair_of (λ a b. refl) (keys_of_edges list) [] ∙ ap (λ x. after edge_order [] (puts x)) (keys-edges list))
 
-pub in_order_is : (list : List Edge) (keys shown ordered entries lent : List (Pair64 × Unit {0})) (pairs : List (ℕ × ℕ)) → keys ≡ as_keys list → shown ≡ keys → ordered ≡ build pair64_cmp shown → entries ≡ ordered → lent ≡ entries → pairs ≡ as_pairs lent → pairs ≡ with_edges [] (pairs_of list)
-in_order_is list keys shown ordered entries lent pairs k s o e l p = p ∙ ap as_pairs (l ∙ e ∙ o ∙ ap (build pair64_cmp) (s ∙ k)) ∙ ordered_pairs list
+pub in_order_is : (list : List Edge) (keys lent : List (Pair64 × Unit {0})) (pairs : List (ℕ × ℕ)) → keys ≡ build pair64_cmp (keys_of_edges list) → lent ≡ keys → pairs ≡ as_pairs lent → pairs ≡ with_edges [] (pairs_of list)
+in_order_is list keys lent pairs k l p = p ∙ ap as_pairs (l ∙ k) ∙ ordered_pairs list
+
+-- the set of one edge's end
+pub single_end : (edges : List (ℕ × ℕ)) (e : ℕ × ℕ) → length edges ≡ 1 → e ≡ get_or edges 0 e → build nat_cmp (ends edges) ≡ (e.1, tt) ∷ []
+single_end [] e h is = absurd (let none : ⊥ = omega (arith, h) in none)
+single_end (x ∷ []) e h is = ap (λ (d : ℕ × ℕ). (d.1, tt) ∷ []) (sym is)
+single_end (x ∷ y ∷ edges) e h is = absurd (let none : ⊥ = omega (arith, h) in none)
 
 -- ---- the run of one vertex
 

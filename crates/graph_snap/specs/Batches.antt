@@ -2,13 +2,14 @@
 use Rattle.std.specs.Prelude.{◌≡◌, ◌==◌, [], ◌∷◌, ℕ, suc, Bool, List, None, cond, length, map, not}
 use Rattle.std.specs.Ordering.{nat_cmp}
 use Rattle.map_model.specs.Entries.{lookup}
+use Rattle.map_model.specs.SetOperations.{intersect}
 use Rattle.aug_monoid.specs.declared.pair64.Pair64.{Pair64}
 use Rattle.graph_snap.specs.Edges.{Sets, edges_of, with_edges, without_edges}
 use Rattle.graph_snap.specs.declared.edge.Edge.{Edge}
 
--- edges as keys without values, and back
-abbrev pub as_keys : List Edge → List (Pair64 × Unit {0})
-as_keys list = map (λ e. (record { first = e.from; second = e.to }, tt)) list
+-- an edge as a key without value, and keys as edges
+abbrev pub as_key : Edge → Pair64 × Unit {0}
+as_key e = (record { first = e.from; second = e.to }, tt)
 
 abbrev pub as_pairs : List (Pair64 × Unit {0}) → List (ℕ × ℕ)
 as_pairs keys = map (λ e. (e.0.first, e.0.second)) keys
@@ -36,3 +37,7 @@ IsLessened a b left = edges_of left ≡ without_edges (edges_of a) (edges_of b)
 -- two maps of sets have the same set at each vertex that changed hasn't
 abbrev pub AreAlikeBut : Sets → Sets → Sets → Type 0
 AreAlikeBut changed a b = (u : ℕ) → lookup nat_cmp changed u ≡ None → lookup nat_cmp a u ≡ lookup nat_cmp b u
+
+-- the sets of a at the vertices of b
+abbrev pub common : Sets → Sets → Sets
+common a b = intersect nat_cmp (λ x y. x) a b

@@ -1,32 +1,37 @@
 //! Batches of edges, as sets of out-neighbours by vertex.
-ghost use Rattle.std.specs.Prelude.{◌≡◌, [], map, IfOk};
-ghost use Rattle.graph_snap.specs.Batches.{as_keys, as_pairs, run};
+ghost use Rattle.std.specs.Prelude.{◌≡◌, ◌∷◌, [], map, IfOk};
+ghost use Rattle.graph_snap.specs.Batches.{as_key, as_pairs, run};
 ghost use Rattle.graph_snap.specs.Edges.{AreSets, IsGraph, edges_of, pairs_of, with_edges};
 
 use crate::edge::Edge;
 use crate::neighbours::Neighbours;
-use aug_map::PlainMap;
-use aug_monoid::{NoMemory, Nothing, Pair64};
+use aug_monoid::{NoMemory, Pair64};
 use fork_join::{Cut, Gate};
+use gathering::{Gives, set_of};
 use std::alloc::Global;
 use std::marker::Sync;
 use std::thread::Threads;
 
-// Edges as keys without values.
-fn as_keys(alloc: Global, list: &[Edge]) -> Result<Vec<(Pair64, ())>, NoMemory>
-    ensures { IfOk result (λ keys. keys.items ≡ as_keys list.now) }
-{
-    let keys = list
-        .iter()
-        .map(|edge| {
-            let key = Pair64 {
-                first: edge.from,
-                second: edge.to,
-            };
-            (key, ())
-        })
-        .collect(alloc)?;
-    Ok(keys)
+// An edge as a key without value.
+#[derive(Drop)]
+struct Keys;
+
+impl Gives<Edge, Pair64> for Keys {
+    ghost given = { λ _ e. as_key e ∷ [] };
+
+    fn push_given(
+        &self,
+        _alloc: Global,
+        item: &Edge,
+        into: &mut Vec<(Pair64, ())>,
+    ) -> Result<(), NoMemory> {
+        let key = Pair64 {
+            first: item.from,
+            second: item.to,
+        };
+        into.push((key, ()))?;
+        Ok(())
+    }
 }
 
 // Keys as edges.
@@ -50,10 +55,8 @@ fn in_order<R: Threads + Sync, G: Gate>(
 ) -> Result<Vec<(u64, u64)>, NoMemory>
     ensures { IfOk result (λ edges. edges.items ≡ with_edges [] (pairs_of list.now)) }
 {
-    let keys = as_keys(alloc, list)?;
-    let ordered: PlainMap<Nothing<Pair64, ()>> = PlainMap::build(rt, alloc, gate, cut, &keys)?;
-    let entries = ordered.to_vec(alloc)?;
-    as_pairs(alloc, &entries)
+    let keys = set_of(rt, alloc, gate, cut, &Keys, list)?;
+    as_pairs(alloc, &keys)
 }
 
 // How many edges at the start are from a vertex.
@@ -69,13 +72,7 @@ fn run_length(edges: &[(u64, u64)], from: u64) -> usize
 }
 
 // The sets of out-neighbours that edges in order make.
-fn grouped<R: Threads + Sync, G: Gate>(
-    rt: &R,
-    alloc: Global,
-    gate: &G,
-    cut: Cut,
-    edges: &[(u64, u64)],
-) -> Result<Vec<(u64, Neighbours)>, NoMemory>
+fn grouped(alloc: Global, edges: &[(u64, u64)]) -> Result<Vec<(u64, Neighbours)>, NoMemory>
     requires { IsGraph edges.now }
     ensures sets { IfOk result (λ sets. AreSets sets.items) }
     ensures edges { IfOk result (λ sets. edges_of sets.items ≡ edges.now) }
@@ -84,7 +81,7 @@ fn grouped<R: Threads + Sync, G: Gate>(
     let mut rest = edges;
     while let Some(edge) = rest.first() {
         let (run, later) = rest.split_at(run_length(rest, edge.0));
-        let set = Neighbours::ends_of(rt, alloc, gate, cut, run)?;
+        let set = Neighbours::ends_of(alloc, run)?;
         sets.push((edge.0, set))?;
         rest = later;
     }
@@ -103,5 +100,5 @@ pub(crate) fn sets_of<R: Threads + Sync, G: Gate>(
     ensures edges { IfOk result (λ sets. edges_of sets.items ≡ with_edges [] (pairs_of list.now)) }
 {
     let edges = in_order(rt, alloc, gate, cut, list)?;
-    grouped(rt, alloc, gate, cut, &edges)
+    grouped(alloc, &edges)
 }

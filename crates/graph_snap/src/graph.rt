@@ -5,9 +5,10 @@ ghost use Rattle.graph_snap.specs.Edges.{with_edges, without_edges};
 ghost use Rattle.graph_snap.specs.Walks.{HasDistances, reach};
 
 use crate::batch::sets_of;
+use crate::counting::recount;
 use crate::edge::{Edge, Reached};
 use crate::search::search;
-use crate::vertices::{Vertices, degree_at, recount, with_sets, without_sets};
+use crate::vertices::{Vertices, degree_at, with_sets, without_sets};
 use aug_map::PlainMap;
 use aug_monoid::{NoMemory, Share};
 use fork_join::{Cut, Gate};
@@ -107,7 +108,16 @@ impl Graph {
         let changed = sets_of(rt, alloc, gate, cut, list)?;
         let batch = Vertices::build(rt, alloc, gate, cut, &changed)?;
         let vertices = with_sets(rt, alloc, gate, cut, &self.vertices, &batch)?;
-        let edges = recount(alloc, &self.vertices, &vertices, self.edges, &changed)?;
+        let edges = recount(
+            rt,
+            alloc,
+            gate,
+            cut,
+            &self.vertices,
+            &vertices,
+            self.edges,
+            &batch,
+        )?;
         Ok(Graph { vertices, edges })
     }
 
@@ -125,13 +135,22 @@ impl Graph {
         let changed = sets_of(rt, alloc, gate, cut, list)?;
         let batch = Vertices::build(rt, alloc, gate, cut, &changed)?;
         let vertices = without_sets(rt, alloc, gate, cut, &self.vertices, &batch)?;
-        let edges = recount(alloc, &self.vertices, &vertices, self.edges, &changed)?;
+        let edges = recount(
+            rt,
+            alloc,
+            gate,
+            cut,
+            &self.vertices,
+            &vertices,
+            self.edges,
+            &batch,
+        )?;
         Ok(Graph { vertices, edges })
     }
 
     /// The vertices that walks from `from` reach, in order, each with the least number of edges of such a walk; `from` itself
-    /// is at 0. For each distance it unites the sets of out-neighbours of the vertices there, in halves that fork where the cut
-    /// allows it.
+    /// is at 0. For each distance it gathers the out-neighbours of the vertices there, in parts that fork where the cut allows
+    /// it, and sorts them. For m edges from what is reached, and n vertices, it takes about m * log(n * m) work.
     pub fn bfs<R: Threads + Sync, G: Gate>(
         &self,
         rt: &R,

@@ -2,6 +2,7 @@
 #![tactic(auto)]
 
 mod batch;
+mod counting;
 mod edge;
 mod graph;
 mod neighbours;

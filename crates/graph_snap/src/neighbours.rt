@@ -9,10 +9,8 @@ ghost use Rattle.graph_snap.specs.Merging.{merged};
 
 use aug_map::CodedMap;
 use aug_monoid::{First, NoMemory, Nothing, Resolve, Share, Test};
-use fork_join::{Cut, Gate};
 use std::alloc::Global;
-use std::marker::{Model, Sync};
-use std::thread::Threads;
+use std::marker::Model;
 
 /// The set of a vertex's out-neighbours, as the keys of a map.
 pub struct Neighbours {
@@ -51,6 +49,17 @@ fn ends(alloc: Global, run: &[(u64, u64)]) -> Result<Vec<(u64, ())>, NoMemory>
     Ok(keys)
 }
 
+// The set of the ends of edges from one vertex.
+fn set_of_ends(alloc: Global, run: &[(u64, u64)]) -> Result<CodedMap<Nothing<u64, ()>>, NoMemory>
+    ensures { IfOk result (λ set. set.entries ≡ build nat_cmp (ends run.now)) }
+{
+    if run.len() == 1 {
+        return CodedMap::single(alloc, run[0].1, ());
+    }
+    let keys = ends(alloc, run)?;
+    CodedMap::build_alone(alloc, &keys)
+}
+
 impl Neighbours {
     /// The set without elements.
     pub(crate) fn none() -> Neighbours
@@ -77,17 +86,10 @@ impl Neighbours {
     }
 
     /// The set of the ends of edges.
-    pub(crate) fn ends_of<R: Threads + Sync, G: Gate>(
-        rt: &R,
-        alloc: Global,
-        gate: &G,
-        cut: Cut,
-        run: &[(u64, u64)],
-    ) -> Result<Neighbours, NoMemory>
+    pub(crate) fn ends_of(alloc: Global, run: &[(u64, u64)]) -> Result<Neighbours, NoMemory>
         ensures { IfOk result (λ set. set ≡ build nat_cmp (ends run.now)) }
     {
-        let keys = ends(alloc, run)?;
-        let set = CodedMap::build(rt, alloc, gate, cut, &keys)?;
+        let set = set_of_ends(alloc, run)?;
         Ok(Neighbours { set })
     }
 

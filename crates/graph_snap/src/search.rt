@@ -1,18 +1,15 @@
 //! The search by fronts: each has the vertices at one distance.
-ghost use Rattle.std.specs.Prelude.{◌≡◌, ◌+◌, [], IfOk};
-ghost use Rattle.std.specs.Ordering.{nat_cmp};
-ghost use Rattle.map_model.specs.Entries.{IsIncreasing};
-ghost use Rattle.graph_snap.specs.Edges.{AreSets, edges_of};
-ghost use Rattle.graph_snap.specs.Merging.{at_distance, in_order_fits, merged, merged_monoid};
-ghost use Rattle.graph_snap.specs.Merging.{neighbours_of, next_front, set_in_order};
+ghost use Rattle.std.specs.Prelude.{◌≡◌, ◌+◌, IfOk};
+ghost use Rattle.graph_snap.specs.Edges.{AreSets, edges_of, set_at};
+ghost use Rattle.graph_snap.specs.Merging.{at_distance, neighbours_of, next_front};
 ghost use Rattle.graph_snap.specs.Walks.{as_reached, reach};
 
 use crate::edge::Reached;
-use crate::neighbours::Neighbours;
 use crate::vertices::{Vertices, set_at};
 use aug_map::CodedMap;
-use aug_monoid::{First, NoMemory, Nothing, Reduce, Share};
+use aug_monoid::{First, NoMemory, Nothing, Share};
 use fork_join::{Cut, Gate};
+use gathering::{Gives, set_of};
 use std::alloc::Global;
 use std::marker::Sync;
 use std::thread::Threads;
@@ -20,62 +17,26 @@ use std::thread::Threads;
 // Vertices with their distances.
 type Distances = CodedMap<Nothing<u64, u64>>;
 
-// The set of a vertex, which is in order.
-#[tactic(auto, using(crate::proofs::Ordered::set_is_ordered))]
-fn set_in_order(alloc: Global, vertices: &Vertices, vertex: u64) -> Result<Neighbours, NoMemory>
-    ensures { IfOk result (λ set. set ≡ set_in_order vertices.now.entries vertex) }
-{
-    let set = set_at(alloc, vertices, vertex)?;
-    let _size = set.size();
-    Ok(set)
-}
-
-// The set of each vertex of a front, and how two sets meet.
+// The set of each vertex of a front.
 #[derive(Drop)]
 struct Near<'a> {
     vertices: &'a Vertices,
 }
 
-impl<'a> Reduce<u64, u64> for Near<'a> {
-    type Out = Neighbours;
+impl<'a> Gives<(u64, u64), u64> for Near<'a> {
+    ghost given = { λ n e. set_at n.vertices.now.entries e.0 };
 
-    ghost Fits = { λ _. IsIncreasing nat_cmp };
-
-    ghost image_of = { λ n u _. set_in_order n.vertices.now.entries u };
-
-    ghost unit_of = { λ _. [] };
-
-    ghost met = { λ _. merged };
-
-    ghost image_fits = { λ n u _. in_order_fits n.vertices.now.entries u };
-
-    ghost monoid = { λ _. merged_monoid };
-
-    fn of(&self, alloc: Global, key: &u64, _val: &u64) -> Result<Neighbours, NoMemory> {
-        set_in_order(alloc, self.vertices, *key)
+    fn push_given(
+        &self,
+        alloc: Global,
+        item: &(u64, u64),
+        into: &mut Vec<(u64, ())>,
+    ) -> Result<(), NoMemory> {
+        let set = set_at(alloc, self.vertices, item.0)?;
+        let mut elements = set.map().to_vec(alloc)?;
+        into.append(&mut elements)?;
+        Ok(())
     }
-
-    fn unit(&self) -> Neighbours {
-        Neighbours::none()
-    }
-
-    fn meet(&self, alloc: Global, a: Neighbours, b: Neighbours) -> Result<Neighbours, NoMemory> {
-        a.merged(alloc, &b)
-    }
-}
-
-// The out-neighbours of all vertices of a front.
-fn neighbours_of<R: Threads + Sync, G: Gate>(
-    rt: &R,
-    alloc: Global,
-    gate: &G,
-    cut: Cut,
-    vertices: &Vertices,
-    front: &Distances,
-) -> Result<Neighbours, NoMemory>
-    ensures { IfOk result (λ near. near ≡ neighbours_of vertices.now.entries front.now.entries) }
-{
-    front.map_reduce(rt, alloc, gate, cut, &Near { vertices })
 }
 
 // Vertices with one distance.
@@ -93,14 +54,13 @@ fn near_pairs<R: Threads + Sync, G: Gate>(
     gate: &G,
     cut: Cut,
     vertices: &Vertices,
-    front: &Distances,
+    front: &[(u64, u64)],
     distance: u64,
 ) -> Result<Vec<(u64, u64)>, NoMemory>
-    ensures { IfOk result (λ pairs. pairs.items ≡ at_distance distance (neighbours_of vertices.now.entries front.now.entries)) }
+    ensures { IfOk result (λ pairs. pairs.items ≡ at_distance distance (neighbours_of vertices.now.entries front.now)) }
 {
-    let near = neighbours_of(rt, alloc, gate, cut, vertices, front)?;
-    let keys = near.map().to_vec(alloc)?;
-    pairs_at(alloc, &keys, distance)
+    let near = set_of(rt, alloc, gate, cut, &Near { vertices }, front)?;
+    pairs_at(alloc, &near, distance)
 }
 
 // The vertices that an edge leads to from a front and that were not found before.
@@ -116,7 +76,8 @@ fn next_front<R: Threads + Sync, G: Gate>(
 ) -> Result<Distances, NoMemory>
     ensures { IfOk result (λ map. map.entries ≡ next_front vertices.now.entries front.now.entries found.now.entries distance) }
 {
-    let pairs = near_pairs(rt, alloc, gate, cut, vertices, front, distance)?;
+    let entries = front.to_vec(alloc)?;
+    let pairs = near_pairs(rt, alloc, gate, cut, vertices, &entries, distance)?;
     let near: Distances = CodedMap::build(rt, alloc, gate, cut, &pairs)?;
     near.difference(rt, alloc, gate, cut, found)
 }

@@ -1,5 +1,5 @@
 //! The map from vertices to their sets of out-neighbours.
-ghost use Rattle.std.specs.Prelude.{◌≡◌, ◌+◌, ◌-◌, ◌<◌, ◌≤◌, length, IfOk};
+ghost use Rattle.std.specs.Prelude.{◌≡◌, ◌<◌, length, IfOk};
 ghost use Rattle.graph_snap.specs.Batches.{AreAlikeBut, IsLessened, IsUnited};
 ghost use Rattle.graph_snap.specs.Edges.{AreSets, edges_of, set_at};
 
@@ -90,39 +90,4 @@ pub(crate) fn without_sets<R: Threads + Sync, G: Gate>(
     let left = changed.filter(rt, alloc, gate, cut, &HasElements)?;
     let others = vertices.difference(rt, alloc, gate, cut, batch)?;
     others.union(rt, alloc, gate, cut, &left, &First)
-}
-
-// A number of edges where some are exchanged for others. That it is no `u64` is want of memory.
-fn exchanged(count: u64, old: u64, new: u64) -> Result<u64, NoMemory>
-    requires { old ≤ count }
-    ensures { IfOk result (λ more. more ≡ count - old + new) }
-{
-    match (count - old).checked_add(new) {
-        Some(more) => Ok(more),
-        None => Err(NoMemory),
-    }
-}
-
-/// How many edges a map has that differs from another one at these vertices alone.
-pub(crate) fn recount(
-    alloc: Global,
-    before: &Vertices,
-    after: &Vertices,
-    edges: u64,
-    changed: &[(u64, Neighbours)],
-) -> Result<u64, NoMemory>
-    requires before { AreSets before.now.entries }
-    requires after { AreSets after.now.entries }
-    requires changed { AreSets changed.now }
-    requires others { AreAlikeBut changed.now before.now.entries after.now.entries }
-    requires edges { edges ≡ length (edges_of before.now.entries) }
-    ensures { IfOk result (λ count. count ≡ length (edges_of after.now.entries)) }
-{
-    let mut count = edges;
-    for (vertex, _) in changed {
-        let old = degree_at(alloc, before, *vertex)?;
-        let degree = degree_at(alloc, after, *vertex)?;
-        count = exchanged(count, old, degree)?;
-    }
-    Ok(count)
 }

@@ -1,4 +1,4 @@
-//! Tests of the crates below the trees: the plain program, the instances, slices, forks, turns and blocks.
+//! Tests of the crates below the trees: the plain program, the instances, slices, sets, forks, turns and blocks.
 #![tactic(auto)]
 
 #[cfg(test)]
@@ -13,6 +13,8 @@ mod instances;
 mod plain_blocks;
 #[cfg(test)]
 mod plain_program;
+#[cfg(test)]
+mod sets;
 #[cfg(test)]
 mod slices;
 #[cfg(test)]

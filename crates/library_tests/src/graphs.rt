@@ -2,6 +2,7 @@
 use aug_monoid::{NoMemory, Share};
 use fork_join::{Cut, FreeGate};
 use graph_snap::{Edge, Graph, Neighbours};
+use meeting::Meeting;
 use std::alloc::Global;
 use std::marker::Sync;
 use std::test::Fail;
@@ -90,6 +91,25 @@ fn found<R: Threads + Sync>(
     Ok(pairs)
 }
 
+/// From 0 to each of 1 to 500, and from each of these to 501.
+fn fan(alloc: Global) -> Result<Vec<(u64, u64)>, NoMemory> {
+    let mut pairs = Vec::new(alloc);
+    for spoke in 1..501u64 {
+        pairs.push((0, spoke))?;
+        pairs.push((spoke, 501))?;
+    }
+    Ok(pairs)
+}
+
+/// How many vertices a search of the fan finds, and whether the halves of a front of 500 met.
+fn found_in_fan<R: Threads + Sync>(rt: &R, alloc: Global) -> Result<(usize, bool), NoMemory> {
+    let pairs = fan(alloc)?;
+    let graph = graph_of(rt, alloc, &pairs, &[])?;
+    let gate = Meeting::new();
+    let found = graph.bfs(rt, alloc, &gate, Cut::new(2, 500), 0)?;
+    Ok((found.len(), gate.was_met()))
+}
+
 #[test]
 fn batches_with_loops_and_repeated_edges(rt: HostRuntime) -> Result<(), Fail> {
     let all = counts(&rt, rt.alloc(), &ADDED, &[])?;
@@ -119,5 +139,11 @@ fn a_search_by_the_shortest_way(rt: HostRuntime) -> Result<(), Fail> {
         left.as_slice(),
         [(1, 0), (2, 1), (3, 2), (4, 3), (5, 4)].as_slice()
     );
+    Ok(())
+}
+
+#[test]
+fn a_wide_front_is_searched_by_halves_that_meet(rt: HostRuntime) -> Result<(), Fail> {
+    assert_eq!(rt; found_in_fan(&rt, rt.alloc())?, (502, true));
     Ok(())
 }

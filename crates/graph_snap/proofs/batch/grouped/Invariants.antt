@@ -3,7 +3,7 @@ use Rattle.graph_snap.proofs.Runs.{IsGrouping}
 use Rattle.graph_snap.proofs.batch.grouped.Given as goal
 
 abbrev pub invariant-loop-edge : goal.invariant-loop-edge
-invariant-loop-edge g l = IsGrouping l.edges l.sets.items l.rest
+invariant-loop-edge l = IsGrouping l.edges l.sets.items l.rest
 
 abbrev pub decreases-loop-edge : goal.decreases-loop-edge
-decreases-loop-edge g l = length l.rest
+decreases-loop-edge l = length l.rest

@@ -3,4 +3,4 @@ use Rattle.graph_snap.proofs.Runs.{in_order_is}
 use Rattle.graph_snap.proofs.batch.in_order.Goals as goal
 
 pub returns : goal.returns
-returns g c = IfOk-weaker c.as_pairs.result _ _ (λ pairs h. in_order_is c.args.list.now c.in_ok-keys.keys.items c.deref.result.now c.in_ok-ordered.ordered.entries c.in_ok-entries.entries.items c.deref-2.result.now pairs.items c.in_ok-keys.ensures c.deref.ensures.value c.in_ok-ordered.ensures c.in_ok-entries.ensures c.deref-2.ensures.value h) c.as_pairs.ensures
+returns g c = IfOk-weaker c.as_pairs.result _ _ (λ pairs h. in_order_is c.args.list.now c.in_ok-keys.keys.items c.deref.result.now pairs.items c.in_ok-keys.ensures c.deref.ensures.value h) c.as_pairs.ensures

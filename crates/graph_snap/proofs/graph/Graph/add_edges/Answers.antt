@@ -1,5 +1,4 @@
 use Rattle.std.proofs.Common.{◌∙◌, subst, sym}
-use Rattle.graph_snap.specs.Batches.{AreAlikeBut}
 use Rattle.graph_snap.specs.Edges.{AreSets, edges_of, pairs_of}
 use Rattle.graph_snap.proofs.Batched.{added, built_sets}
 use Rattle.graph_snap.proofs.graph.Graph.add_edges.Goals as goal
@@ -9,12 +8,6 @@ with_sets-requires-clause-batch g c κs within =
     let changed = c.in_ok-changed.changed.items in
     let made = built_sets changed c.deref.result.now c.in_ok-batch.batch.entries c.in_ok-changed.ensures.sets c.deref.ensures.value c.in_ok-batch.ensures in
     subst AreSets (sym made) c.in_ok-changed.ensures.sets
-
-pub recount-requires-clause-others : goal.recount-requires-clause-others
-recount-requires-clause-others g c =
-    let changed = c.in_ok-changed.changed.items in
-    let made = built_sets changed c.deref.result.now c.in_ok-batch.batch.entries c.in_ok-changed.ensures.sets c.deref.ensures.value c.in_ok-batch.ensures in
-    subst (λ m. AreAlikeBut m c.self.inside.vertices.entries c.in_ok-vertices.vertices.entries) (made ∙ sym c.deref-2.ensures.value) c.in_ok-vertices.ensures.others
 
 pub returns : goal.returns
 returns g c =

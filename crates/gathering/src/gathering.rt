@@ -1,0 +1,111 @@
+//! A list as work that is divided.
+ghost use Rattle.std.specs.Prelude.{◌≡◌, ◌++◌, length, IfOk};
+ghost use Rattle.std.specs.List.{flat_map};
+ghost use Rattle.map_model.specs.Operations.{build};
+
+use crate::gives::Gives;
+use crate::sorting::put_in_order;
+use aug_monoid::{Key, NoMemory, Second};
+use entry_lists::union_of;
+use fork_join::{Cut, Divide, Gate, Opened, divide};
+use std::alloc::Global;
+use std::marker::{Send, Sync};
+use std::thread::Threads;
+
+// The keys of a list's items, each part of at most `most` items at once.
+#[derive(Drop)]
+struct Gathering<'a, W> {
+    how: &'a W,
+    most: usize,
+}
+
+impl<'a, T, K: Key, W: Gives<T, K>> Divide<&'a [T], (), Vec<(K, ())>> for Gathering<'a, W> {
+    ghost fits = { λ _ _. Unit {0} };
+
+    ghost answers = { λ work part out. out.items ≡ build K.cmp (flat_map (W.given work.how.now) part.now) };
+
+    ghost divides = { λ _ part front _ back. part.now ≡ front.now ++ back.now };
+
+    ghost extent = { λ _ part. length part.now };
+
+    fn size(&self, part: &&'a [T]) -> u64 {
+        part.len() as u64
+    }
+
+    fn open(
+        &self,
+        alloc: Global,
+        part: &'a [T],
+    ) -> Result<Opened<&'a [T], (), Vec<(K, ())>>, NoMemory> {
+        if part.len() > self.most && part.len() >= 2 {
+            let (front, back) = part.split_at(part.len() / 2);
+            return Ok(Opened::Split(front, (), back));
+        }
+        let keys = gathered::<T, K, W>(alloc, self.how, part)?;
+        Ok(Opened::Done(keys))
+    }
+
+    fn close(
+        &self,
+        alloc: Global,
+        left: Vec<(K, ())>,
+        _middle: (),
+        right: Vec<(K, ())>,
+    ) -> Result<Vec<(K, ())>, NoMemory> {
+        union_of(alloc, &left, &right, &Second)
+    }
+}
+
+// The keys of a list's items as they come.
+fn pushed<T, K: Key, W: Gives<T, K>>(
+    alloc: Global,
+    how: &W,
+    items: &[T],
+) -> Result<Vec<(K, ())>, NoMemory>
+    ensures { IfOk result (λ keys. keys.items ≡ flat_map (W.given how.now) items.now) }
+{
+    let mut keys = Vec::with_capacity(alloc, items.len())?;
+    for item in items {
+        how.push_given(alloc, item, &mut keys)?;
+    }
+    Ok(keys)
+}
+
+// The set of a list's items, at once.
+fn gathered<T, K: Key, W: Gives<T, K>>(
+    alloc: Global,
+    how: &W,
+    items: &[T],
+) -> Result<Vec<(K, ())>, NoMemory>
+    ensures { IfOk result (λ keys. keys.items ≡ build K.cmp (flat_map (W.given how.now) items.now)) }
+{
+    let mut keys = pushed::<T, K, W>(alloc, how, items)?;
+    put_in_order(alloc, &mut keys)?;
+    Ok(keys)
+}
+
+// How many items at most are done at once, so that each worker has a part.
+fn most_at_once(cut: Cut, items: usize) -> usize {
+    if cut.splits(items as u64) {
+        items.div_ceil(cut.workers as usize)
+    } else {
+        items
+    }
+}
+
+/// The keys that a list's items give, in order and each once. The list is cut in as many parts as there are workers, where the cut
+/// allows it; the keys of a part are sorted, and parts are merged. For n keys it makes about n * log n comparisons. `NoMemory` for
+/// want of memory alone.
+pub fn set_of<R: Threads + Sync, G: Gate, T: Sync, K: Key + Send, W: Gives<T, K> + Send + Sync>(
+    rt: &R,
+    alloc: Global,
+    gate: &G,
+    cut: Cut,
+    how: &W,
+    items: &[T],
+) -> Result<Vec<(K, ())>, NoMemory>
+    ensures { IfOk result (λ keys. keys.items ≡ build K.cmp (flat_map (W.given how.now) items.now)) }
+{
+    let most = most_at_once(cut, items.len());
+    divide(rt, alloc, gate, cut, &Gathering { how, most }, items)
+}
