@@ -1,5 +1,7 @@
-//! Tests of the tool serve: what a served map answers.
+//! Tests of the tool serve: what a served map answers, and the lines of a version.
 #![tactic(auto)]
 
 #[cfg(test)]
 mod answers;
+#[cfg(test)]
+mod texts;
