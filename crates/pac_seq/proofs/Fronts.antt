@@ -1,7 +1,7 @@
 -- Fronts of what stands behind a place.
-use Rattle.std.proofs.Common.{◌≡◌, ℕ, zero, suc, ◌<◌, List, [], ◌∷◌, ◌++◌, length, drop, Some, sym, ap, ◌∙◌, append_assoc}
+use Rattle.std.proofs.Common.{◌≡◌, ℕ, zero, suc, ◌+◌, ◌<◌, List, [], ◌∷◌, ◌++◌, length, drop, Some, refl, sym, ap, ◌∙◌, arith, append_assoc}
 use Rattle.std.specs.List.{slice_get}
-use Rattle.std.proofs.Math.Seq.{drop-append_seam}
+use Rattle.std.proofs.Math.Seq.{drop-append_seam, drop-append-add}
 use Rattle.pac_seq.specs.Seats.{IsFront}
 
 pub front_of : {E : Type 0} (front back whole : List E) → 0 < length front → whole ≡ front ++ back → IsFront front whole
@@ -19,3 +19,15 @@ get_first [] zero x t is = cc
 get_first [] (suc i) x t is = cc
 get_first (y ∷ es) zero x t is = cc
 get_first (y ∷ es) (suc i) x t is = get_first es i x t is
+
+-- what begins at a place of a part begins at a place of the whole
+abbrev pub Leads : {E : Type 0} → List E → ℕ → List E → ℕ → Type 0
+Leads part i whole j = (front : List _) → IsFront front (drop i part) → IsFront front (drop j whole)
+
+pub leads-here : {E : Type 0} (part left : List E) (e : E) (right : List E) (i : ℕ) (whole : List E) (j : ℕ) → part ≡ left ++ e ∷ right → i ≡ length left → Leads part i whole j → IsFront (e ∷ []) (drop j whole)
+leads-here part left e right i whole j is here leads =
+    leads (e ∷ []) (rw (is, here, drop-append_seam left (e ∷ right)) (front_of (e ∷ []) right (e ∷ right) (omega arith) refl))
+
+pub leads-right : {E : Type 0} (part left : List E) (e : E) (right : List E) (i n : ℕ) (whole : List E) (j : ℕ) → part ≡ left ++ e ∷ right → i ≡ length left + suc n → Leads part i whole j → Leads right n whole j
+leads-right part left e right i n whole j is past leads =
+    λ front begins. leads front (rw (is, past, drop-append-add left (e ∷ right) (suc n)) begins)

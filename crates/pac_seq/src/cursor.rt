@@ -4,7 +4,7 @@ ghost use Rattle.std.specs.Iterator.{YieldsFirstRef, item_count};
 
 use crate::places::{Seat, seat_at};
 use crate::seq::SeqOver;
-use seq_core::{BlockSize, Fold, Part, SeqTree, Width};
+use seq_core::{BlockSize, Fold, SeqTree, Width};
 use std::marker::Model;
 
 /// The items of a sequence in order, from a place on.
@@ -57,7 +57,7 @@ impl<'a, F: Fold, S: BlockSize> Iterator for CursorOver<'a, F, S> {
         if self.after >= self.tree.size() {
             return None;
         }
-        match seat_at(Part { tree: self.tree }, self.after) {
+        match seat_at(self.tree, self.after) {
             Seat::Between { item } => {
                 self.after += 1;
                 Some(item)

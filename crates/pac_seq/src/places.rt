@@ -16,24 +16,35 @@ pub(crate) enum Seat<'a, F: Fold> {
 }
 
 /// The seat of the item at a place.
-pub(crate) fn seat_at<'a, F: Fold, S: BlockSize>(part: Part<'a, F, S>, place: u64) -> Seat<'a, F>
-    requires { place < length part.tree.now.items }
-    ensures { IsFront (items_at result) (drop place part.entry.tree.now.items) }
+// It goes down in a loop, since a recursion would hand the seat up again through each level. That the place is on the left side
+// is asked first, so that the program branches, and the processor need not wait for a node before it begins with the next.
+pub(crate) fn seat_at<'a, F: Fold, S: BlockSize>(tree: &'a SeqTree<F, S>, place: u64) -> Seat<'a, F>
+    requires { place < length tree.now.items }
+    ensures { IsFront (items_at result) (drop place tree.now.items) }
 {
-    match part.tree.look() {
-        Look::Empty => unreachable!(),
-        Look::Block { items } => {
-            let (_, rest) = items.split_at(place as usize);
-            Seat::Inside { items: rest }
-        }
-        Look::Node { left, item, right } => {
-            let before = left.size();
-            if place < before {
-                seat_at(Part { tree: left }, place)
-            } else if place == before {
-                Seat::Between { item }
-            } else {
-                seat_at(Part { tree: right }, place - before - 1)
+    let mut part = tree;
+    let mut place_in = place;
+    loop {
+        match part.look() {
+            Look::Empty => unreachable!(),
+            Look::Block { items } => {
+                let (_, rest) = items.split_at(place_in as usize);
+                return Seat::Inside { items: rest };
+            }
+            Look::Node {
+                before,
+                left,
+                item,
+                right,
+            } => {
+                if place_in < before {
+                    part = left;
+                } else if place_in == before {
+                    return Seat::Between { item };
+                } else {
+                    part = right;
+                    place_in -= before + 1;
+                }
             }
         }
     }
@@ -44,7 +55,7 @@ fn item_at<'a, F: Fold, S: BlockSize>(tree: &'a SeqTree<F, S>, place: u64) -> &'
     requires { place < length tree.now.items }
     ensures { slice_get tree.now.items place ≡ Some result.now }
 {
-    match seat_at(Part { tree }, place) {
+    match seat_at(tree, place) {
         Seat::Inside { items } => &items[0],
         Seat::Between { item } => item,
     }
@@ -81,11 +92,11 @@ fn set_at<F: Fold, S: BlockSize>(
         Look::Empty => unreachable!(),
         Look::Block { items } => set_in_block(alloc, items, place, item),
         Look::Node {
+            before,
             left,
             item: middle,
             right,
         } => {
-            let before = left.size();
             if place == before {
                 return join(alloc, left, item, right);
             }

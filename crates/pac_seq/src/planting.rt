@@ -79,7 +79,12 @@ fn pushed<F: Fold, S: BlockSize>(
     match part.tree.look() {
         Look::Empty => planted(alloc, more),
         Look::Block { items } => pushed_to_block(alloc, part.tree, items, more),
-        Look::Node { left, item, right } => {
+        Look::Node {
+            left,
+            item,
+            right,
+            ..
+        } => {
             let back = pushed(alloc, Part { tree: right }, more)?;
             join(alloc, left, share_item::<F>(alloc, item), &back)
         }

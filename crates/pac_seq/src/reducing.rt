@@ -47,8 +47,12 @@ fn reduce_part<F: Fold, S: BlockSize, C: Ledger>(
     match part.tree.look() {
         Look::Empty => unreachable!(),
         Look::Block { items } => reduce_block::<F, C>(items, from, count, steps),
-        Look::Node { left, item, right } => {
-            let before = left.size();
+        Look::Node {
+            before,
+            left,
+            item,
+            right,
+        } => {
             if before < from {
                 return reduce_part(alloc, Part { tree: right }, from - before - 1, count, steps);
             }

@@ -36,7 +36,12 @@ impl<'a, F: Fold, S: BlockSize> Divide<&'a SeqTree<F, S>, F::Item, SeqTree<F, S>
         match part.look() {
             Look::Empty => Ok(Opened::Done(part.share(alloc)?)),
             Look::Block { items } => Ok(Opened::Done(reversed_block(alloc, items)?)),
-            Look::Node { left, item, right } => {
+            Look::Node {
+                left,
+                item,
+                right,
+                ..
+            } => {
                 let middle = share_item::<F>(alloc, item);
                 Ok(Opened::Split(left, middle, right))
             }

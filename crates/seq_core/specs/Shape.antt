@@ -12,9 +12,10 @@ module _ {E X : Type 0} (image : E → X) (unit : X) (meet : X → X → X) (blo
     pub short : length items ≤ 2 * block
     pub sum_is : sum ≡ sum_of image unit meet items
 
-  -- the sum, the size and the height are stored, the sides are balanced, and of few items each side is one block
-  pub record IsNode (left : Contents E) (item : E) (right : Contents E) (sum : X) (size height : ℕ) : Type 0 where
+  -- the size of the left side, the sum, the size and the height are stored, the sides are balanced, and of few items each side is one block
+  pub record IsNode (before : ℕ) (left : Contents E) (item : E) (right : Contents E) (sum : X) (size height : ℕ) : Type 0 where
     pub block_size : IsBlockSize block
+    pub before_is : before ≡ length left.items
     pub sum_is : sum ≡ sum_of image unit meet (left.items ++ item ∷ right.items)
     pub size_is : size ≡ length (left.items ++ item ∷ right.items)
     pub size_fits : size < 2 ^ 60

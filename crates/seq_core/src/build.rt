@@ -50,7 +50,8 @@ impl<F: Fold, S: BlockSize> SeqTree<F, S> {
         requires filled { FillsNode S.SIZE (length left.items) (length right.items) }
         ensures { IfOk result (λ tree. tree.items ≡ left.items ++ item ∷ right.items) }
     {
-        let size = left.size() + right.size() + 1;
+        let before = left.size();
+        let size = before + right.size() + 1;
         if size >= MOST_ITEMS {
             return Err(NoMemory);
         }
@@ -59,12 +60,13 @@ impl<F: Fold, S: BlockSize> SeqTree<F, S> {
         let node = owned(
             alloc,
             Node {
+                before,
                 left,
-                item,
                 right,
-                sum,
+                item,
                 size,
                 height,
+                sum,
             },
         )?;
         Ok(SeqTree {

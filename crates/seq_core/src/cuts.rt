@@ -55,8 +55,12 @@ pub fn take<F: Fold, S: BlockSize>(
     match part.tree.look() {
         Look::Empty => unreachable!(),
         Look::Block { items } => take_block(alloc, items, count),
-        Look::Node { left, item, right } => {
-            let before = left.size();
+        Look::Node {
+            before,
+            left,
+            item,
+            right,
+        } => {
             if count <= before {
                 return take(alloc, Part { tree: left }, count);
             }
@@ -85,8 +89,12 @@ pub fn skip<F: Fold, S: BlockSize>(
     match part.tree.look() {
         Look::Empty => unreachable!(),
         Look::Block { items } => skip_block(alloc, items, count),
-        Look::Node { left, item, right } => {
-            let before = left.size();
+        Look::Node {
+            before,
+            left,
+            item,
+            right,
+        } => {
             if count > before {
                 return skip(alloc, Part { tree: right }, count - before - 1);
             }
@@ -104,8 +112,13 @@ fn first<'a, F: Fold, S: BlockSize>(part: Part<'a, F, S>) -> Option<&'a F::Item>
     match part.tree.look() {
         Look::Empty => None,
         Look::Block { items } => items.first(),
-        Look::Node { left, item, .. } => {
-            if left.size() == 0 {
+        Look::Node {
+            before,
+            left,
+            item,
+            ..
+        } => {
+            if before == 0 {
                 Some(item)
             } else {
                 first(Part { tree: left })

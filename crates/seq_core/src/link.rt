@@ -44,7 +44,12 @@ impl<F: Fold, S: BlockSize> SeqTree<F, S> {
         match self.look() {
             Look::Empty => Ok(()),
             Look::Block { items } => push_items::<F>(alloc, items, out),
-            Look::Node { left, item, right } => {
+            Look::Node {
+                left,
+                item,
+                right,
+                ..
+            } => {
                 left.push_to(alloc, out)?;
                 out.push(share_item::<F>(alloc, item))?;
                 right.push_to(alloc, out)

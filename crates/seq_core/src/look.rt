@@ -14,6 +14,8 @@ pub enum Look<'a, F: Fold, S: BlockSize> {
         items: &'a [F::Item],
     },
     Node {
+        /// How many items the left side has.
+        before: u64,
         left: &'a SeqTree<F, S>,
         item: &'a F::Item,
         right: &'a SeqTree<F, S>,
@@ -32,6 +34,7 @@ impl<F: Fold, S: BlockSize> SeqTree<F, S> {
                 items: block.items.as_slice(),
             },
             Top::Node(node) => Look::Node {
+                before: node.before,
                 left: &node.left,
                 item: &node.item,
                 right: &node.right,

@@ -50,7 +50,13 @@ pub(crate) fn sides_of<'a, F: Fold, S: BlockSize>(
     ensures items { tree.now.items ≡ beside side result.far.now.items result.item.now result.near.now.items }
     ensures balanced { IsBalanced (weight result.far.now.items) (weight result.near.now.items) }
 {
-    let Look::Node { left, item, right } = tree.look() else {
+    let Look::Node {
+        left,
+        item,
+        right,
+        ..
+    } = tree.look()
+    else {
         unreachable!()
     };
     match side {
