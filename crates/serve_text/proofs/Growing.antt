@@ -46,7 +46,7 @@ module _ {O Q : Type 0} where
   reads_of-cons r rs = refl
 
   -- some of the records have at most as many batches
-  fewer_batches : (p : Record O Q → Bool) (rs : List (Record O Q)) → length (batches_of (filter p rs)) ≤ length (batches_of rs)
+  pub fewer_batches : (p : Record O Q → Bool) (rs : List (Record O Q)) → length (batches_of (filter p rs)) ≤ length (batches_of rs)
   fewer_batches p [] = omega arith
   fewer_batches p (r ∷ rs) =
       let rest = fewer_batches p rs in

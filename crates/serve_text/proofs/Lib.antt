@@ -1,3 +1,6 @@
 pub mod Orders
 pub mod Growing
 pub mod Merging
+pub mod Decimals
+pub mod Keys
+pub mod Determined

@@ -1,3 +1,4 @@
 pub mod Records
 pub mod Histories
 pub mod Texts
+pub mod Determined
