@@ -1,0 +1,4 @@
+pub mod FirstRound
+pub mod HaveRuns
+pub mod Played
+pub mod UnderWay

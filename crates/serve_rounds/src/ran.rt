@@ -1,0 +1,21 @@
+//! What a caller leaves of a round.
+use batch_store::Caller;
+use serve_callers::Lines;
+use serve_text::Answers;
+use std::marker::Model;
+
+/// A caller after its records of a round, and the lines of its reads in order.
+#[derive(Drop)]
+pub(crate) struct Ran<S: Answers> {
+    pub(crate) caller: Caller<S>,
+    pub(crate) lines: Lines,
+}
+
+impl<S: Answers> Model for Ran<S> {
+    ghost use Rattle.std.specs.Prelude.{List, ℕ};
+    ghost use Rattle.batch_store.specs.Calling.{Calling};
+
+    ghost Value = { Calling S S.Op × List (List ℕ) };
+
+    ghost view = { λ a. (a.caller, a.lines) };
+}

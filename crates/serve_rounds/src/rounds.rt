@@ -1,0 +1,61 @@
+//! All rounds, one after another.
+ghost use Rattle.std.specs.Prelude.{◌≡◌, ◌<◌, ◌≤◌, IfOk, All, drop, length, take};
+ghost use Rattle.std.specs.List.Sorted.{IsNonDecreasingBy};
+ghost use Rattle.batch_store.specs.Round.{IsNewStore};
+ghost use Rattle.serve_text.specs.Histories.{AreInRounds};
+ghost use Rattle.serve_rounds.specs.Rounds.{HasServed};
+
+use crate::round::play_round;
+use crate::served::Served;
+use aug_monoid::NoMemory;
+use batch_store::{Caller, Store};
+use fork_join::{Cut, Gate};
+use serve_text::{Answers, Record};
+use std::alloc::Global;
+use std::marker::Sync;
+use std::sync::Wait;
+use std::thread::Threads;
+
+/// How many of the records are of the first one's round.
+fn round_length<O: Drop, Q: Drop>(first: u64, records: &[Record<O, Q>]) -> usize
+    requires rise { IsNonDecreasingBy (λ r. r.round) records.now }
+    requires least { All (λ r. first ≤ r.round) records.now }
+    ensures within { result ≤ length records.now }
+    ensures here { All (λ r. r.round ≡ first) (take result records.now) }
+    ensures later { All (λ r. first < r.round) (drop result records.now) }
+{
+    records.partition_point(|record| record.round == first)
+}
+
+/// Runs the records of a new store's callers in their rounds, which do not fall. In each round the callers that have records run side by
+/// side, each in a thread of its own where one can be made, beside a combiner that makes as many turns as the round has batches, one at
+/// least; then the round ends. A round without records takes no time.
+///
+/// It enters the gate at 200 before each turn, at 201 after a turn that published, at 256 + c before each read of caller c, and in the
+/// state's own forks. It may wait. On a refusal store and callers are dropped.
+pub fn run_rounds<S: Answers, R: Threads + Wait + Sync, G: Gate>(
+    rt: &R,
+    alloc: Global,
+    gate: &G,
+    cut: Cut,
+    store: Store<S>,
+    callers: Vec<Caller<S>>,
+    records: &[Record<S::Op, S::Query>],
+) -> Result<Served<S>, NoMemory>
+    requires new { IsNewStore store.base (length callers.items) store callers.items }
+    requires rounds { AreInRounds (length callers.items) records.now }
+    ensures { IfOk result (λ served. HasServed S.step S.answer_of records.now store served.store callers.items served.callers.items served.text.items) }
+{
+    let mut served = Served {
+        store,
+        callers,
+        text: Vec::new(alloc),
+    };
+    let mut left = records;
+    while let Some(record) = left.first() {
+        let (round, later) = left.split_at(round_length(record.round, left));
+        served = play_round(rt, alloc, gate, cut, served, round)?;
+        left = later;
+    }
+    Ok(served)
+}
