@@ -2,6 +2,7 @@
 use Rattle.std.proofs.Common.{◌≡◌, [], ◌∷◌, ℕ, List, Option, Some, None, codes, map, replicate, refl}
 use Rattle.clap.proofs.OnLiterals.{clap_on_literals}
 use Rattle.clap.specs.Words.{Text}
+use Rattle.pam_top.specs.Answer.{AsksPlainly}
 use Rattle.pam_top.specs.CommandLine.{matches_on, pam_command}
 use Rattle.pam_top.specs.Settings.{settings_of}
 use Rattle.pam_top.specs.declared.settings.Settings.{Settings}
@@ -83,6 +84,7 @@ lawful_words =
     (codes "points" ∷ []) ∷
     (codes "index" ∷ []) ∷
     (codes "graph" ∷ []) ∷
+    (codes "serve" ∷ []) ∷
     (codes "--seed" ∷ codes "0" ∷ codes "--size" ∷ codes "1" ∷ codes "sample" ∷ []) ∷
     []
 
@@ -103,7 +105,13 @@ lawful : map settings_of lawful_words ≡
     tool_with tool.Points 4 1024 1 100000 ∷
     tool_with tool.Index 4 1024 1 100000 ∷
     tool_with tool.Graph 4 1024 1 100000 ∷
+    tool_with tool.Serve 4 1024 1 100000 ∷
     tool_with tool.Sample 4 1024 0 1 ∷
     []
 unfolding matches_on pam_command clap_on_literals settings_of
 lawful = refl
+
+-- the tool map does not wait
+pub map_is_plain : AsksPlainly (codes "map" ∷ [])
+unfolding matches_on pam_command clap_on_literals settings_of
+map_is_plain = λ is. cc

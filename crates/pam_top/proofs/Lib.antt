@@ -2,8 +2,6 @@ pub mod Answers
 pub mod Examples
 pub mod Matched
 pub mod Place
-pub mod Plain
-pub mod Registers
 pub mod Rows
 pub mod SampleFacts
 pub mod Sums

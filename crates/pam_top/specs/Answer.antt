@@ -1,5 +1,5 @@
 -- What the program answers to its words and its input.
-use Rattle.std.specs.Prelude.{◌≡◌, ◌⊎◌, ◌<◌, ◌≤◌, [], ℕ, Bool, true, false, List, None, IsSomeAnd, IsOkAnd, IsErrAnd, Ok, Result, MatchBool, length, if◌then◌else◌}
+use Rattle.std.specs.Prelude.{◌≡◌, ◌⊎◌, ◌<◌, ◌≤◌, [], ℕ, Bool, true, false, List, None, IfSome, IsSomeAnd, IsOkAnd, IsErrAnd, Ok, Result, MatchBool, length, if◌then◌else◌}
 use Rattle.script.specs.Commands.{commands_of}
 use Rattle.script.specs.Lines.{IsPrefix, error_line_of}
 use Rattle.script.specs.declared.fault.BadRecord.{BadRecord}
@@ -68,6 +68,10 @@ AsksToRead words = IsSomeAnd (settings_of words) (λ settings. reads_input setti
 
 abbrev pub AsksNotToRead : List (List ℕ) → Type 0
 AsksNotToRead words = IsSomeAnd (settings_of words) (λ settings. reads_input settings.tool ≡ false)
+
+-- the words do not ask for the tool that waits
+abbrev pub AsksPlainly : List (List ℕ) → Type 0
+AsksPlainly words = IfSome (settings_of words) (λ settings. settings.tool ≡ tool.Serve → ⊥)
 
 -- what was taken from the source and appended to the sink, at each status
 abbrev pub Outcome : List (List ℕ) → List ℕ → Status → List ℕ → Type 0

@@ -3,5 +3,7 @@ pub mod Settings
 pub mod Sample
 pub mod Output
 pub mod Answer
+pub mod Asking
+pub mod Telling
 pub mod InputRead
 pub mod Places

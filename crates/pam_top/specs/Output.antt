@@ -11,8 +11,9 @@ use Rattle.script.specs.declared.parsed.Parsed.{Parsed}
 use Rattle.script.specs.declared.parsed.Parsed.TheVariants as parsed
 use Rattle.seq_tool.specs.Effects.{seq_after, seq_reply}
 use Rattle.seq_tool.specs.Registers as sequences
+use Rattle.serve_tool.specs.Output.{IsServeOutput}
 
--- each tool begins with nothing
+-- each tool begins with nothing, and all but one have one text for an input: serve has that of any lawful history
 abbrev pub IsOutput : Parsed → List ℕ → Type 0
 IsOutput (parsed.Map commands) text = text ≡ replies map_reply map_after empty_registers commands
 IsOutput (parsed.Seq commands) text = text ≡ replies seq_reply seq_after sequences.empty_registers commands
@@ -20,7 +21,7 @@ IsOutput (parsed.Interval commands) text = text ≡ replies interval_reply inter
 IsOutput (parsed.Points commands) text = text ≡ replies points_reply points_after [] commands
 IsOutput (parsed.Index commands) text = text ≡ replies index_reply index_after [] commands
 IsOutput (parsed.Graph commands) text = text ≡ replies graph_reply graph_after no_graphs commands
-IsOutput (parsed.Serve commands) text = ⊥
+IsOutput (parsed.Serve commands) text = IsServeOutput commands text
 
 -- the commands of a tool that does not wait
 abbrev pub IsPlain : Parsed → Type 0

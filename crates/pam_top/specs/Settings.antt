@@ -22,6 +22,7 @@ tool_named name =
     else if bytes_eq name (codes "points") then Some tool.Points
     else if bytes_eq name (codes "index") then Some tool.Index
     else if bytes_eq name (codes "graph") then Some tool.Graph
+    else if bytes_eq name (codes "serve") then Some tool.Serve
     else if bytes_eq name (codes "sample") then Some tool.Sample
     else None
 

@@ -12,8 +12,10 @@ use map_tool::run_map;
 use points_tool::run_points;
 use script::Parsed;
 use seq_tool::run_seq;
+use serve_tool::serve_text;
 use std::alloc::Global;
 use std::marker::Sync;
+use std::sync::Wait;
 use std::thread::Threads;
 
 /// The replies to the commands of a tool that does not wait, which depend neither on the runtime nor on the gate nor on the cut.
@@ -36,5 +38,22 @@ pub fn run_plain<R: Threads + Sync, G: Gate>(
         Parsed::Index(list) => run_index(rt, alloc, gate, cut, list.items()),
         Parsed::Graph(list) => run_graph(rt, alloc, gate, cut, list.items()),
         Parsed::Serve(_) => unreachable!(),
+    }
+}
+
+/// The replies to the commands of any tool. It may wait in the tool serve alone.
+pub(crate) fn run<R: Threads + Wait + Sync, G: Gate>(
+    rt: &R,
+    alloc: Global,
+    gate: &G,
+    cut: Cut,
+    commands: &Parsed,
+) -> Result<Vec<u8>, NoMemory>
+    requires { IsLawful commands.now }
+    ensures { IfOk result (λ text. IsOutput commands.now text.items) }
+{
+    match commands {
+        Parsed::Serve(list) => serve_text(rt, alloc, gate, cut, list.items()),
+        _ => run_plain(rt, alloc, gate, cut, commands),
     }
 }

@@ -3,7 +3,6 @@ ghost use Rattle.std.specs.Prelude.{◌≡◌, ◌≤◌, IfOk, IfSome, MatchRes
 ghost use Rattle.std.specs.String.{string_bytes};
 ghost use Rattle.clap.specs.Words.{first_of, found_of, rows_of};
 ghost use Rattle.pam_top.specs.Settings.{IsInRange, between, settings_from, settings_of, tool_named, value_in};
-ghost use Rattle.script.specs.declared.parsed.Tool.TheVariants as tool;
 ghost use Rattle.pam_top.specs.declared.words_fault.WordsFault.TheVariants as fault;
 
 use crate::command_line::{matches, with_name};
@@ -24,8 +23,7 @@ pub(crate) struct Settings {
 
 // The tool with this name.
 fn tool_of(name: &str) -> Option<Tool>
-    ensures exact { result ≡ tool_named name.now }
-    ensures plain { IfSome result (λ t. t ≡ tool.Serve → ⊥) }
+    ensures { result ≡ tool_named name.now }
 {
     match name {
         "map" => Some(Tool::Map),
@@ -34,6 +32,7 @@ fn tool_of(name: &str) -> Option<Tool>
         "points" => Some(Tool::Points),
         "index" => Some(Tool::Index),
         "graph" => Some(Tool::Graph),
+        "serve" => Some(Tool::Serve),
         "sample" => Some(Tool::Sample),
         _ => None,
     }
@@ -70,7 +69,6 @@ fn value_of(text: Option<&str>, default: u64, least: u64, most: u64) -> Option<u
 fn settings_in(matches: &ArgMatches<'_>) -> Option<Settings>
     ensures exact { result ≡ settings_from (rows_of (found_of matches.now)) }
     ensures range { IfSome result IsInRange }
-    ensures plain { IfSome result (λ s. s.tool ≡ tool.Serve → ⊥) }
 {
     let tool = tool_of(text_of(matches, "tool")?)?;
     let workers = value_of(text_of(matches, "workers"), 4, 1, 64)? as u32;
@@ -92,7 +90,6 @@ pub(crate) fn read_words(alloc: Global, words: &[String]) -> Result<Settings, Wo
     ensures exact { MatchResult result (λ s. settings_of (map string_bytes words.now) ≡ Some s)
         (λ e. e ≡ fault.Usage → settings_of (map string_bytes words.now) ≡ None) }
     ensures range { IfOk result IsInRange }
-    ensures plain { IfOk result (λ s. s.tool ≡ tool.Serve → ⊥) }
 {
     let list = with_name(alloc, words)?;
     let matches = matches(alloc, &list)?;

@@ -6,21 +6,21 @@ ghost use Rattle.io_edge.specs.Edge.{Rose};
 ghost use Rattle.pam_top.specs.Answer.{AsksNotToRead, AsksToRead, Outcome, was_read, was_silent};
 
 use crate::Status;
-use crate::answering::answer;
-use crate::reading::{Stop, input_of};
-use crate::settings::read_words;
-use crate::words_fault::WordsFault;
-use crate::writing::write_text;
+use crate::asking::{Asked, asked_of};
+use crate::running::run;
+use crate::telling::{error_text, tell};
 use fork_join::Gate;
-use io_edge::{Failed, Sink, Source};
+use io_edge::{Sink, Source};
 use std::alloc::Global;
 use std::marker::Sync;
+use std::sync::Wait;
 use std::thread::Threads;
 
 /// Runs `pam` with the words after its name: reads the whole input from `source`, where the tool reads one, then runs its
 /// commands, then writes the replies, or the line of the first bad record, to `sink`. What was taken and what was written are the
-/// `bytes` and the `text` of an `Outcome`, on which neither the runtime nor the gate has a bearing.
-pub fn pam<R: Threads + Sync, S: Source, K: Sink, G: Gate>(
+/// `bytes` and the `text` of an `Outcome`, on which neither the runtime nor the gate has a bearing. It may wait where the words ask
+/// for the tool serve, and for no other: `pam_plain` is the same call without that tool.
+pub fn pam<R: Threads + Wait + Sync, S: Source, K: Sink, G: Gate>(
     rt: &R,
     alloc: Global,
     words: &[String],
@@ -37,21 +37,11 @@ pub fn pam<R: Threads + Sync, S: Source, K: Sink, G: Gate>(
     ensures read_fault { result ≡ Status.ReadFault → Rose (S.faults source.old) (S.faults source.new) }
     ensures write_fault { result ≡ Status.WriteFault → Rose (K.faults sink.old) (K.faults sink.new) }
 {
-    let settings = match read_words(alloc, words) {
-        Ok(settings) => settings,
-        Err(WordsFault::Usage) => return Status::Usage,
-        Err(WordsFault::NoMemory) => return Status::NoMemory,
-    };
-    match input_of(alloc, settings.tool, source) {
-        Ok(input) => match answer(rt, alloc, gate, &settings, &input) {
-            Ok(reply) => match write_text(sink, &reply.text) {
-                Ok(()) => reply.status,
-                Err(Failed) => Status::WriteFault,
-            },
-            Err(_) => Status::NoMemory,
-        },
-        Err(Stop::TooLarge) => Status::TooLarge,
-        Err(Stop::Fault) => Status::ReadFault,
-        Err(Stop::NoMemory) => Status::NoMemory,
+    match asked_of(alloc, words, source) {
+        Asked::Commands { cut, list } => {
+            tell(sink, Status::Ok, run(rt, alloc, gate, cut, &list))
+        }
+        Asked::Bad(bad) => tell(sink, Status::BadRecord, error_text(alloc, &bad)),
+        Asked::Ended(status) => status,
     }
 }

@@ -6,6 +6,8 @@ mod edges;
 #[cfg(test)]
 mod many_points;
 #[cfg(test)]
+mod plainly;
+#[cfg(test)]
 mod programs;
 #[cfg(test)]
 mod records;

@@ -9,6 +9,7 @@ use pam_top::{Status, pam};
 use std::alloc::Global;
 use std::marker::Sync;
 use std::process::Abort;
+use std::sync::Wait;
 use std::test::Fail;
 use std::thread::Threads;
 
@@ -48,7 +49,7 @@ fn words_of(alloc: Global, words: &[&str]) -> Result<Vec<String>, Fail> {
 
 /// Runs the program, and answers its status and what it wrote.
 fn run(
-    rt: &(impl Threads + Sync),
+    rt: &(impl Threads + Wait + Sync),
     alloc: Global,
     words: &[&str],
     input: &[u8],
@@ -71,7 +72,7 @@ fn run(
 
 /// Runs a row in pieces of so many bytes on so many workers.
 fn check(
-    rt: &(impl Abort + Threads + Sync),
+    rt: &(impl Abort + Threads + Wait + Sync),
     alloc: Global,
     row: Row,
     status: Status,
@@ -90,7 +91,7 @@ fn check(
 
 /// Runs each row in pieces of 1 byte on one worker, and in pieces of 7 bytes on many.
 fn check_all(
-    rt: &(impl Abort + Threads + Sync),
+    rt: &(impl Abort + Threads + Wait + Sync),
     alloc: Global,
     rows: &[Row],
     status: Status,
@@ -334,7 +335,7 @@ const UNLAWFUL: &[&[&str]] = &[
 
 /// Runs the example at each list of words.
 fn check_words(
-    rt: &(impl Abort + Threads + Sync),
+    rt: &(impl Abort + Threads + Wait + Sync),
     alloc: Global,
     lists: &[&[&str]],
     status: Status,
@@ -360,7 +361,7 @@ fn words_that_are_not_lawful(rt: HostRuntime) -> Result<(), Fail> {
 
 /// Runs the example in pieces of so many bytes, where these calls fail.
 fn check_failing(
-    rt: &(impl Abort + Threads + Sync),
+    rt: &(impl Abort + Threads + Wait + Sync),
     alloc: Global,
     piece: usize,
     reads: &[u64],

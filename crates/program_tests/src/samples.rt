@@ -6,6 +6,7 @@ use meeting::Meeting;
 use pam_top::{Status, pam};
 use std::alloc::Global;
 use std::marker::Sync;
+use std::sync::Wait;
 use std::test::Fail;
 use std::thread::Threads;
 
@@ -18,7 +19,7 @@ fn words_of(alloc: Global, words: &[&str]) -> Result<Vec<String>, Fail> {
 }
 
 // What the program writes to these words, and its status.
-fn sampled<R: Threads + Sync, G: Gate>(
+fn sampled<R: Threads + Wait + Sync, G: Gate>(
     rt: &R,
     alloc: Global,
     words: &[&str],

@@ -1,0 +1,44 @@
+//! The whole program without the tool that waits.
+ghost use Rattle.std.specs.Prelude.{◌≡◌, true, List, ℕ, map};
+ghost use Rattle.std.specs.String.{string_bytes};
+ghost use Rattle.std.specs.Io.KnownBytes.{Appends, Consumes, IsAtEnd};
+ghost use Rattle.io_edge.specs.Edge.{Rose};
+ghost use Rattle.pam_top.specs.Answer.{AsksNotToRead, AsksPlainly, AsksToRead, Outcome, was_read, was_silent};
+
+use crate::Status;
+use crate::asking::{Asked, asked_of};
+use crate::running::run_plain;
+use crate::telling::{error_text, tell};
+use fork_join::Gate;
+use io_edge::{Sink, Source};
+use std::alloc::Global;
+use std::marker::Sync;
+use std::thread::Threads;
+
+/// Runs `pam` with words that do not ask for the tool serve: the same call without the bound `Wait`, so that it returns.
+pub fn pam_plain<R: Threads + Sync, S: Source, K: Sink, G: Gate>(
+    rt: &R,
+    alloc: Global,
+    words: &[String],
+    source: &mut S,
+    sink: &mut K,
+    gate: &G,
+) -> Status
+    requires plain { AsksPlainly (map string_bytes words.now) }
+    ensures answer { (bytes : List ℕ) × (text : List ℕ) × Consumes (S.left source.old) (S.left source.new) bytes
+        × Appends (K.written sink.old) (K.written sink.new) text × Outcome (map string_bytes words.now) bytes result text }
+    ensures whole { was_read result ≡ true → AsksToRead (map string_bytes words.now) → (S.ended source.new ≡ true) × IsAtEnd (S.left source.new) }
+    ensures unread { result ≡ Status.Usage → source.new ≡ source.old }
+    ensures unasked { AsksNotToRead (map string_bytes words.now) → source.new ≡ source.old }
+    ensures silent { was_silent result ≡ true → sink.new ≡ sink.old }
+    ensures read_fault { result ≡ Status.ReadFault → Rose (S.faults source.old) (S.faults source.new) }
+    ensures write_fault { result ≡ Status.WriteFault → Rose (K.faults sink.old) (K.faults sink.new) }
+{
+    match asked_of(alloc, words, source) {
+        Asked::Commands { cut, list } => {
+            tell(sink, Status::Ok, run_plain(rt, alloc, gate, cut, &list))
+        }
+        Asked::Bad(bad) => tell(sink, Status::BadRecord, error_text(alloc, &bad)),
+        Asked::Ended(status) => status,
+    }
+}

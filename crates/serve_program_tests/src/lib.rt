@@ -1,0 +1,17 @@
+//! Tests of the tool serve through the whole program: worked inputs, edges that fail, many records, and threads that overlap.
+#![tactic(auto)]
+
+#[cfg(test)]
+mod edges;
+#[cfg(test)]
+mod many;
+#[cfg(test)]
+mod meetings;
+#[cfg(test)]
+mod order;
+#[cfg(test)]
+mod runs;
+#[cfg(test)]
+mod turns;
+#[cfg(test)]
+mod worked;
