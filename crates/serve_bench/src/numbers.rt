@@ -1,0 +1,26 @@
+//! Seeded numbers.
+
+/// A linear congruential generator of 64 bits, whose high bits are used.
+#[derive(Drop)]
+pub(crate) struct Numbers {
+    state: u64,
+}
+
+impl Numbers {
+    pub(crate) fn new(seed: u64) -> Numbers {
+        Numbers { state: seed }
+    }
+
+    fn next(&mut self) -> u64 {
+        self.state = self
+            .state
+            .wrapping_mul(6364136223846793005)
+            .wrapping_add(1442695040888963407);
+        self.state
+    }
+
+    /// A number below the bound, and 0 where the bound is 0.
+    pub(crate) fn below(&mut self, bound: u64) -> u64 {
+        (self.next() >> 32) % bound.max(1)
+    }
+}

@@ -1,0 +1,52 @@
+//! Rounds of many callers.
+ghost use Rattle.std.specs.Prelude.{◌≤◌};
+ghost use Rattle.serve_text.specs.Histories.{AreInRounds};
+
+use crate::timed::{Timed, told};
+use anyhow::Result;
+use aug_monoid::NoMemory;
+use batch_store::Store;
+use fork_join::{Cut, FreeGate};
+use op_runs::Op;
+use script::{ServeQuery, serve_commands};
+use serve_answers::ServedMap;
+use serve_rounds::{finish, run_rounds};
+use serve_text::Record;
+use std::alloc::Global;
+use std::marker::Sync;
+use std::rt::Clock;
+use std::sync::Wait;
+use std::thread::Threads;
+use std::time::Instant;
+
+/// The text of the records of so many callers, served from an empty map on.
+fn served<R: Threads + Wait + Sync>(
+    rt: &R,
+    alloc: Global,
+    cut: Cut,
+    callers: u32,
+    records: &[Record<Op, ServeQuery>],
+) -> Result<Vec<u8>, NoMemory>
+    requires few { (1 ≤ callers) × (callers ≤ 64) }
+    requires rounds { AreInRounds callers records.now }
+{
+    let (store, callers) = Store::start(alloc, ServedMap::new(), callers)?;
+    let served = run_rounds(rt, alloc, &FreeGate, cut, store, callers, records)?;
+    finish(rt, alloc, &FreeGate, cut, served)
+}
+
+/// Runs the rounds of an input's records.
+pub(crate) fn time<R: Threads + Wait + Sync + Clock>(
+    rt: &R,
+    alloc: Global,
+    cut: Cut,
+    bytes: &[u8],
+) -> Result<Timed> {
+    let commands = serve_commands(alloc, bytes)?;
+    let records = serve_input::records(alloc, commands.items())?;
+    let callers = serve_input::callers(commands.items());
+    let start = Instant::now(rt)?;
+    let text = served(rt, alloc, cut, callers, &records)?;
+    let nanoseconds = start.elapsed(rt)?.as_nanos();
+    told(alloc, &text, nanoseconds)
+}
