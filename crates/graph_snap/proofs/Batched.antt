@@ -18,7 +18,7 @@ use Rattle.map_model.proofs.Lookups.{first_found, lookup-filter, option_or-none}
 use Rattle.map_model.proofs.NatKeys.{nat_exact}
 use Rattle.map_model.proofs.Operations.{build-increasing}
 use Rattle.map_model.proofs.Unions.{IsIncreasing-union, lookup-union, united}
-use Rattle.graph_snap.specs.Batches.{AreAlikeBut, has_elements}
+use Rattle.graph_snap.specs.Batches.{has_elements}
 use Rattle.graph_snap.specs.Edges.{AreSets, IsFilled, IsGraph, Sets, edge_order, edges_of, elements, with_edges, without_edges}
 use Rattle.graph_snap.specs.Merging.{merged}
 use Rattle.graph_snap.proofs.Sets.{edge_in, found-edges_of, found-with_edges, found-without_edges, graph-edges_of, graph-with_edges, graph-without_edges, keys-elements, same_graphs}
@@ -113,9 +113,6 @@ module _ (sets batch : Sets) (are : AreSets sets) (be : AreSets batch) where
       ∙ edge-both u v
       ∙ sym (found-with_edges (edges_of sets) (edges_of batch) (u, v) ∙ ap₂ option_or (found-edges_of batch u v be.increasing) (found-edges_of sets u v are.increasing)))
 
-  pub alike-both : AreAlikeBut batch sets both
-  alike-both u none = sym (found-both u ∙ ap (united merged (lookup nat_cmp sets u)) none)
-
   -- ---- without the sets of a batch
 
   abbrev kept : Sets
@@ -185,12 +182,6 @@ module _ (sets batch : Sets) (are : AreSets sets) (be : AreSets batch) where
       found-edges_of left u v sets-left.increasing
       ∙ edge-left u v
       ∙ sym (found-without_edges (edges_of sets) (edges_of batch) (u, v) ∙ ap₂ (λ t o. cond t None o) (any-edge (edges_of batch) (u, v) ∙ ap is_some (found-edges_of batch u v be.increasing)) (found-edges_of sets u v are.increasing)))
-
-  pub alike-left : AreAlikeBut batch sets left
-  alike-left u none =
-      sym (found-left u
-      ∙ ap (left_at (lookup nat_cmp sets u)) none
-      ∙ elim (lookup nat_cmp sets u) as (λ o. left_at o None ≡ o) [ None ↦ refl | Some x ↦ refl ])
 
 -- ---- a batch in order and as it was given
 

@@ -1,15 +1,16 @@
--- How many vertices have out-neighbours, and how many out-neighbours a vertex has.
-use Rattle.std.proofs.Common.{◌≡◌, ◌∙◌, ◌<◌, ◌++◌, ◌∷◌, ◌==◌, [], ℕ, true, false, cond, List, Option, None, Some, length, map, slice_get, refl, sym, ap, ap₂, arith}
+-- How many vertices have out-neighbours, how many out-neighbours a vertex has, and how many edges there are.
+use Rattle.std.proofs.Common.{◌≡◌, ◌∙◌, ◌+◌, ◌-◌, ◌^◌, ◌<◌, ◌++◌, ◌∷◌, ◌==◌, [], ℕ, true, false, cond, List, Option, None, Some, length, length-append, map, min, slice_get, refl, sym, ap, ap₂, arith}
 use Rattle.std.specs.declared.cmp.Ordering.TheVariants.{Less, Equal, Greater}
 use Rattle.std.specs.List.{filter}
 use Rattle.std.specs.Map.{keys_of}
 use Rattle.std.specs.Option.{option_map, option_or, unwrap_or}
 use Rattle.std.specs.Ordering.{is_eq, nat_cmp}
 use Rattle.std.proofs.lemmas.Cmp.{nat_cmp_total}
-use Rattle.std.proofs.lemmas.List.{append-nil, map-append}
+use Rattle.std.proofs.lemmas.List.{append-nil, length-map, map-append}
 use Rattle.std.proofs.lemmas.List.Elements.{filter-append}
 use Rattle.std.proofs.lemmas.Map.Entries.{length-keys_of}
 use Rattle.map_model.specs.Entries.{AllAbove, IsIncreasing, lookup}
+use Rattle.map_model.specs.Fold.{fold_of}
 use Rattle.map_model.specs.Operations.{build, last_at}
 use Rattle.map_model.proofs.Lookups.{equal_lookups, lookup-append, lookup-behind, option_or-none}
 use Rattle.map_model.proofs.NatKeys.{is_eq-nat_cmp, nat_exact}
@@ -84,3 +85,28 @@ length-sources sets are =
     lookup-after_puts nat_cmp_total nat_exact firsts [] q ∙ option_or-none (last_at nat_cmp firsts q) ∙ last-element nat_cmp firsts q ∙ found-sources sets q are))
     ∙ ap length (keys-elements (keys_of sets))
     ∙ length-keys_of sets
+
+-- ---- edges
+
+-- the edges of a vertex and those behind it
+length-edges : (e : ℕ × List (ℕ × Unit {0})) (m : Sets) → length (edges_of (e ∷ m)) ≡ length e.1 + length (edges_of m)
+length-edges e m = length-append (fan e.0 e.1) (edges_of m) ∙ ap (λ n. n + length (edges_of m)) (length-map e.1 (λ x. (e.0, x.0)))
+
+-- the sets' sizes summed up, up to a bound
+abbrev total_of : Sets → ℕ
+total_of m = fold_of (λ (u : ℕ) (ns : List (ℕ × Unit {0})). min (length ns) (2 ^ 64 - 1)) 0 (λ a b. min (a + b) (2 ^ 64 - 1)) m
+
+summed : (m : Sets) → total_of m ≡ min (length (edges_of m)) (2 ^ 64 - 1)
+summed [] = refl
+summed (e ∷ m) =
+    let rest = summed m in
+    let all = length-edges e m in
+    omega (arith, rest, all)
+
+-- a sum below the bound is the number of edges
+pub total_is : (m : Sets) (total n : ℕ) → total ≡ total_of m → (n ≡ total) × (n < 2 ^ 64 - 1) → n ≡ length (edges_of m)
+total_is m total n t h =
+    let all = summed m in
+    let same = h.0 in
+    let less = h.1 in
+    omega (arith, t, all, same, less)

@@ -4,7 +4,6 @@ pub mod Counts
 pub mod Fronts
 pub mod Ordered
 pub mod Runs
-pub mod Recounts
 pub mod Batched
 pub mod Distances
 pub mod Crosses

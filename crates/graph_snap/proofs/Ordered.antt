@@ -2,7 +2,6 @@
 use Rattle.std.proofs.Common.{◌≡◌, ◌∙◌, ◌≤◌, [], ℕ, List, length, ap, sym, arith}
 use Rattle.std.specs.Ordering.{nat_cmp}
 use Rattle.std.proofs.lemmas.Cmp.{nat_cmp_total}
-use Rattle.map_model.specs.Entries.{IsIncreasing}
 use Rattle.map_model.specs.Operations.{build}
 use Rattle.map_model.specs.SetOperations.{difference}
 use Rattle.map_model.proofs.NatKeys.{nat_exact}

@@ -1,8 +1,5 @@
--- Batches of edges, and maps of sets that differ at few vertices.
-use Rattle.std.specs.Prelude.{◌≡◌, ◌==◌, [], ◌∷◌, ℕ, suc, Bool, List, None, cond, length, map, not}
-use Rattle.std.specs.Ordering.{nat_cmp}
-use Rattle.map_model.specs.Entries.{lookup}
-use Rattle.map_model.specs.SetOperations.{intersect}
+-- Batches of edges, and maps of sets that they change.
+use Rattle.std.specs.Prelude.{◌≡◌, ◌==◌, [], ◌∷◌, ℕ, suc, Bool, List, cond, length, map, not}
 use Rattle.aug_monoid.specs.declared.pair64.Pair64.{Pair64}
 use Rattle.graph_snap.specs.Edges.{Sets, edges_of, with_edges, without_edges}
 use Rattle.graph_snap.specs.declared.edge.Edge.{Edge}
@@ -33,11 +30,3 @@ IsUnited a b both = edges_of both ≡ with_edges (edges_of a) (edges_of b)
 -- a map of sets has the edges of a that b hasn't
 abbrev pub IsLessened : Sets → Sets → Sets → Type 0
 IsLessened a b left = edges_of left ≡ without_edges (edges_of a) (edges_of b)
-
--- two maps of sets have the same set at each vertex that changed hasn't
-abbrev pub AreAlikeBut : Sets → Sets → Sets → Type 0
-AreAlikeBut changed a b = (u : ℕ) → lookup nat_cmp changed u ≡ None → lookup nat_cmp a u ≡ lookup nat_cmp b u
-
--- the sets of a at the vertices of b
-abbrev pub common : Sets → Sets → Sets
-common a b = intersect nat_cmp (λ x y. x) a b

@@ -5,7 +5,7 @@ ghost use Rattle.graph_snap.specs.Edges.{with_edges, without_edges};
 ghost use Rattle.graph_snap.specs.Walks.{HasDistances, reach};
 
 use crate::batch::sets_of;
-use crate::counting::recount;
+use crate::counting::edges_in;
 use crate::edge::{Edge, Reached};
 use crate::search::search;
 use crate::vertices::{Vertices, degree_at, with_sets, without_sets};
@@ -108,16 +108,7 @@ impl Graph {
         let changed = sets_of(rt, alloc, gate, cut, list)?;
         let batch = Vertices::build(rt, alloc, gate, cut, &changed)?;
         let vertices = with_sets(rt, alloc, gate, cut, &self.vertices, &batch)?;
-        let edges = recount(
-            rt,
-            alloc,
-            gate,
-            cut,
-            &self.vertices,
-            &vertices,
-            self.edges,
-            &batch,
-        )?;
+        let edges = edges_in(&vertices)?;
         Ok(Graph { vertices, edges })
     }
 
@@ -135,16 +126,7 @@ impl Graph {
         let changed = sets_of(rt, alloc, gate, cut, list)?;
         let batch = Vertices::build(rt, alloc, gate, cut, &changed)?;
         let vertices = without_sets(rt, alloc, gate, cut, &self.vertices, &batch)?;
-        let edges = recount(
-            rt,
-            alloc,
-            gate,
-            cut,
-            &self.vertices,
-            &vertices,
-            self.edges,
-            &batch,
-        )?;
+        let edges = edges_in(&vertices)?;
         Ok(Graph { vertices, edges })
     }
 

@@ -3,12 +3,14 @@
 
 mod batch;
 mod counting;
+mod degrees;
 mod edge;
 mod graph;
 mod neighbours;
 mod search;
 mod vertices;
 
+pub use degrees::Degrees;
 pub use edge::{Edge, Reached};
 pub use graph::Graph;
 pub use neighbours::Neighbours;

@@ -1,19 +1,20 @@
 //! The map from vertices to their sets of out-neighbours.
 ghost use Rattle.std.specs.Prelude.{◌≡◌, ◌<◌, length, IfOk};
-ghost use Rattle.graph_snap.specs.Batches.{AreAlikeBut, IsLessened, IsUnited};
+ghost use Rattle.graph_snap.specs.Batches.{IsLessened, IsUnited};
 ghost use Rattle.graph_snap.specs.Edges.{AreSets, edges_of, set_at};
 
+use crate::degrees::Degrees;
 use crate::neighbours::{HasElements, Merge, Minus, Neighbours};
 use aug_map::PlainMap;
-use aug_monoid::{First, NoMemory, Nothing, Steps};
+use aug_monoid::{First, NoMemory, Steps};
 use fork_join::{Cut, Gate};
 use std::alloc::Global;
 use std::marker::{Brand, Sync};
 use std::sync::ledger::{Blank, Ledger};
 use std::thread::Threads;
 
-/// A map from vertices to their sets of out-neighbours.
-pub type Vertices = PlainMap<Nothing<u64, Neighbours>>;
+/// A map from vertices to their sets of out-neighbours, with the number of edges.
+pub type Vertices = PlainMap<Degrees>;
 
 // The set of a vertex, with a counter that the caller gives up.
 fn set_counted<C: Ledger>(
@@ -66,7 +67,6 @@ pub(crate) fn with_sets<R: Threads + Sync, G: Gate>(
     requires batch { AreSets batch.now.entries }
     ensures sets { IfOk result (λ map. AreSets map.entries) }
     ensures edges { IfOk result (λ map. IsUnited vertices.now.entries batch.now.entries map.entries) }
-    ensures others { IfOk result (λ map. AreAlikeBut batch.now.entries vertices.now.entries map.entries) }
 {
     vertices.union(rt, alloc, gate, cut, batch, &Merge)
 }
@@ -84,7 +84,6 @@ pub(crate) fn without_sets<R: Threads + Sync, G: Gate>(
     requires batch { AreSets batch.now.entries }
     ensures sets { IfOk result (λ map. AreSets map.entries) }
     ensures edges { IfOk result (λ map. IsLessened vertices.now.entries batch.now.entries map.entries) }
-    ensures others { IfOk result (λ map. AreAlikeBut batch.now.entries vertices.now.entries map.entries) }
 {
     let changed = vertices.intersect(rt, alloc, gate, cut, batch, &Minus)?;
     let left = changed.filter(rt, alloc, gate, cut, &HasElements)?;

@@ -1,8 +1,7 @@
 use Rattle.std.proofs.Common.{subst, sym, ◌∙◌, ap}
 use Rattle.std.proofs.lemmas.Result.{IfOk-weaker}
-use Rattle.graph_snap.specs.Batches.{AreAlikeBut}
 use Rattle.graph_snap.specs.Edges.{AreSets, edges_of}
-use Rattle.graph_snap.proofs.Batched.{alike-both, edges-both, sets-both}
+use Rattle.graph_snap.proofs.Batched.{edges-both, sets-both}
 use Rattle.graph_snap.proofs.vertices.with_sets.Goals as goal
 
 pub returns-clause-sets : goal.returns-clause-sets
@@ -10,6 +9,3 @@ returns-clause-sets g c = IfOk-weaker c.union.result _ _ (λ map h. subst AreSet
 
 pub returns-clause-edges : goal.returns-clause-edges
 returns-clause-edges g c = IfOk-weaker c.union.result _ _ (λ map h. ap edges_of h ∙ edges-both c.args.vertices.now.entries c.args.batch.now.entries c.requires.vertices c.requires.batch) c.union.ensures
-
-pub returns-clause-others : goal.returns-clause-others
-returns-clause-others g c = IfOk-weaker c.union.result _ _ (λ map h. subst (AreAlikeBut c.args.batch.now.entries c.args.vertices.now.entries) (sym h) (alike-both c.args.vertices.now.entries c.args.batch.now.entries c.requires.vertices c.requires.batch)) c.union.ensures

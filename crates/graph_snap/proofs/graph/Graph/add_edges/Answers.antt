@@ -1,4 +1,4 @@
-use Rattle.std.proofs.Common.{◌∙◌, subst, sym}
+use Rattle.std.proofs.Common.{subst, sym}
 use Rattle.graph_snap.specs.Edges.{AreSets, edges_of, pairs_of}
 use Rattle.graph_snap.proofs.Batched.{added, built_sets}
 use Rattle.graph_snap.proofs.graph.Graph.add_edges.Goals as goal
