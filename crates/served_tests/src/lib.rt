@@ -6,6 +6,8 @@ mod by_chance;
 #[cfg(test)]
 mod plain;
 #[cfg(test)]
+mod rooted;
+#[cfg(test)]
 mod stored;
 #[cfg(test)]
 mod worked;
