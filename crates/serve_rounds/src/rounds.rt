@@ -28,8 +28,9 @@ fn round_length<O: Drop, Q: Drop>(first: u64, records: &[Record<O, Q>]) -> usize
 }
 
 /// Runs the records of a new store's callers in their rounds, which do not fall. In each round the callers that have records run side by
-/// side, each in a thread of its own where one can be made, beside a combiner that makes as many turns as the round has batches, one at
-/// least; then the round ends. A round without records takes no time.
+/// side, one in the thread that calls and each other in a thread of its own where one can be made, beside a combiner that makes as many
+/// turns as the round has batches, one at least; then the round ends. A round of one record starts no thread, and one without records
+/// takes no time. A round of n records and c callers with records takes O(c * n) looks at records, beside what they do.
 ///
 /// It enters the gate at 200 before each turn, at 201 after a turn that published, at 256 + c before each read of caller c, and in the
 /// state's own forks. It may wait. On a refusal store and callers are dropped.

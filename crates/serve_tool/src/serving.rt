@@ -20,9 +20,10 @@ use std::marker::Sync;
 use std::sync::Wait;
 use std::thread::Threads;
 
-/// Runs the commands' batches and reads in their rounds: in each round every caller that has records is run in a thread of its own,
-/// beside one combiner, and where no thread can be made they run one after another. It leaves the store with all batches in its
-/// journal, the callers in order, and the lines of the reads.
+/// Runs the commands' batches and reads in their rounds: in each round the callers that have records run beside one combiner, one of
+/// them in the thread that calls and the others in threads of their own; a round of one record starts no thread, and where none can be
+/// made they run one after another. It leaves the store with all batches in its journal, the callers in order, and the lines of the
+/// reads.
 ///
 /// It enters the gate at 200 and 201 round what each turn of the combiner takes and publishes, and at 256 + c before each read of
 /// caller c. It takes memory for the records, for each thread and for what is submitted, and is refused where that runs out: store
