@@ -3,5 +3,4 @@ mod OutcomeLaws
 mod RunLaws
 mod KeptOrder
 mod Merging
-mod PartLaws
-mod NetLaws
+mod Endings

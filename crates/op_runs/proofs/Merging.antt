@@ -11,7 +11,7 @@ use Rattle.map_model.proofs.NatKeys.{less-nat_cmp}
 use Rattle.op_runs.specs.declared.outcome.Outcome.{Outcome}
 use Rattle.op_runs.specs.declared.outcome.Outcome.TheVariants.{Nothing}
 use Rattle.op_runs.specs.Outcomes.{followed_by}
-use Rattle.op_runs.specs.Nets.{IsComposed}
+use Rattle.op_runs.specs.Runs.{IsComposed}
 use Rattle.op_runs.proofs.OutcomeLaws.{Nothing-followed_by}
 
 abbrev pub Changes : Type 0

@@ -1,3 +1,3 @@
 pub mod Outcomes
 pub mod Steps
-pub mod Nets
+pub mod Runs

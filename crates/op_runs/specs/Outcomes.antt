@@ -1,5 +1,5 @@
 -- What operations on one key come to, and what that leaves of the key's value.
-use Rattle.std.specs.Prelude.{ℕ, ◌+◌, ◌-◌, ◌^◌, min, Bool, true, false, Option, None, Some}
+use Rattle.std.specs.Prelude.{ℕ, ◌+◌, ◌-◌, ◌^◌, min, Option, None, Some}
 use Rattle.op_runs.specs.declared.outcome.Outcome.{Outcome}
 use Rattle.op_runs.specs.declared.outcome.Outcome.TheVariants.{Nothing, Set, Gone, Added}
 
@@ -24,24 +24,3 @@ left_by (Set val) value = Some val
 left_by Gone value = None
 left_by (Added val) None = Some val
 left_by (Added val) (Some old) = Some (sat_sum old val)
-
--- the value that an outcome sets
-abbrev pub set_by : Outcome → Option ℕ
-set_by Nothing = None
-set_by (Set val) = Some val
-set_by Gone = None
-set_by (Added val) = None
-
--- whether an outcome removes
-abbrev pub is_gone : Outcome → Bool
-is_gone Nothing = false
-is_gone (Set val) = false
-is_gone Gone = true
-is_gone (Added val) = false
-
--- the value that an outcome adds
-abbrev pub added_by : Outcome → Option ℕ
-added_by Nothing = None
-added_by (Set val) = None
-added_by Gone = None
-added_by (Added val) = Some val

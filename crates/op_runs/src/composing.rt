@@ -2,7 +2,7 @@
 ghost use Rattle.std.specs.Prelude.{◌≡◌, IfOk};
 ghost use Rattle.std.specs.List.Sorted.{IsSortedByKey};
 ghost use Rattle.std.specs.Ordering.{nat_cmp};
-ghost use Rattle.op_runs.specs.Nets.{IsComposed};
+ghost use Rattle.op_runs.specs.Runs.{IsComposed};
 
 use crate::outcome::Outcome;
 use aug_monoid::NoMemory;

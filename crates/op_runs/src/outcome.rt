@@ -1,6 +1,6 @@
 //! What operations on one key come to.
 ghost use Rattle.std.specs.Prelude.{◌≡◌};
-ghost use Rattle.op_runs.specs.Outcomes.{followed_by};
+ghost use Rattle.op_runs.specs.Outcomes.{followed_by, left_by};
 
 /// What operations on one key, one after another, come to.
 #[derive(Clone, Copy, Debug)]
@@ -34,6 +34,21 @@ impl Outcome {
                     val: sum.saturating_add(val),
                 },
             },
+        }
+    }
+
+    /// The value of a key after this outcome, from its value before: none where the key is not there.
+    pub fn leaves(self, value: Option<u64>) -> Option<u64>
+        ensures { result ≡ left_by self value }
+    {
+        match self {
+            Outcome::Nothing => value,
+            Outcome::Set { val } => Some(val),
+            Outcome::Gone => None,
+            Outcome::Added { val } => Some(match value {
+                None => val,
+                Some(old) => old.saturating_add(val),
+            }),
         }
     }
 }

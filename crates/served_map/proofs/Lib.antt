@@ -1,1 +1,4 @@
 pub mod Wipes
+pub mod Parted
+pub mod Changed
+pub mod Merges

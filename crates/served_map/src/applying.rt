@@ -20,7 +20,7 @@ pub(crate) fn without_range<C: Ledger>(
 ) -> Result<ServedMap, NoMemory>
     ensures { IfOk result (λ less. less.entries ≡ wiped map.now.entries lo hi) }
 {
-    let _rises = map.size();
+    let _rises = map.size(); // for the proof alone: keys rise
     if hi < lo {
         return map.share(alloc);
     }

@@ -1,55 +1,22 @@
 //! Operations applied in runs: those between two wipes at once.
 ghost use Rattle.std.specs.Prelude.{◌≡◌, ◌<◌, IfOk, fold, length};
 ghost use Rattle.std.specs.List.{All, flat_map};
-ghost use Rattle.std.specs.Ordering.{nat_cmp};
-ghost use Rattle.map_model.specs.Operations.{after as changed_by, build, dels, puts};
-ghost use Rattle.map_model.specs.SetOperations.{union};
-ghost use Rattle.op_runs.specs.Outcomes.{sat_sum};
 ghost use Rattle.op_runs.specs.Steps.{IsSingle, step};
 ghost use Rattle.versions.specs.History.{after};
 
 use crate::applying::{ServedMap, apply_all, apply_one};
-use aug_monoid::{NoMemory, SatSum, Share, Steps};
+use crate::dividing::with_outcomes;
+use aug_monoid::{NoMemory, Share, Steps};
 use fork_join::{Cut, Gate};
-use op_runs::{Net, Op, net_of, split_at_wipe};
+use op_runs::{Op, outcomes_of, split_at_wipe};
 use std::alloc::Global;
 use std::marker::{Brand, Sync};
 use std::sync::ledger::{Blank, Ledger};
 use std::thread::Threads;
 use versions::Batch;
 
-/// So many operations between two wipes are applied one by one in place. To sort them and to unite maps of them takes longer.
+/// So many operations between two wipes are applied one by one in place. To sort them takes longer.
 const FEW_OPS: usize = 64;
-
-/// The map with these puts, and then without these keys.
-fn put_and_removed<R: Threads + Sync, G: Gate>(
-    rt: &R,
-    alloc: Global,
-    gate: &G,
-    cut: Cut,
-    map: &ServedMap,
-    net: &Net,
-) -> Result<ServedMap, NoMemory>
-    ensures { IfOk result (λ less. less.entries ≡ changed_by nat_cmp (changed_by nat_cmp map.now.entries (puts net.now.puts.items)) (dels net.now.removals.items)) }
-{
-    let put = map.multi_put(rt, alloc, gate, cut, &net.puts)?;
-    put.multi_del(rt, alloc, gate, cut, &net.removals)
-}
-
-/// The map with these sums added.
-fn with_sums<R: Threads + Sync, G: Gate>(
-    rt: &R,
-    alloc: Global,
-    gate: &G,
-    cut: Cut,
-    map: &ServedMap,
-    pairs: &[(u64, u64)],
-) -> Result<ServedMap, NoMemory>
-    ensures { IfOk result (λ more. more.entries ≡ union nat_cmp sat_sum map.now.entries (build nat_cmp pairs.now)) }
-{
-    let sums = ServedMap::build(rt, alloc, gate, cut, pairs)?;
-    map.union(rt, alloc, gate, cut, &sums, &SatSum)
-}
 
 /// The map after operations without wipes: they are composed for each key, and what they come to is done at once.
 fn at_once<R: Threads + Sync, G: Gate>(
@@ -63,10 +30,9 @@ fn at_once<R: Threads + Sync, G: Gate>(
     requires singles { All IsSingle ops.now }
     ensures { IfOk result (λ changed. changed.entries ≡ fold step map.now.entries ops.now) }
 {
-    let _rises = map.size();
-    let net = net_of(rt, alloc, ops)?;
-    let less = put_and_removed(rt, alloc, gate, cut, map, &net)?;
-    with_sums(rt, alloc, gate, cut, &less, &net.additions)
+    let _rises = map.size(); // for the proof alone: keys rise
+    let outcomes = outcomes_of(rt, alloc, ops)?;
+    with_outcomes(rt, alloc, gate, cut, map, &outcomes)
 }
 
 /// Applies operations without wipes.

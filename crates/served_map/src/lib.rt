@@ -5,7 +5,11 @@
 
 mod applying;
 mod bulk;
+mod changing;
 mod cross;
+mod dividing;
+mod joining;
+mod merging;
 mod served;
 
 pub use cross::served_crosses;

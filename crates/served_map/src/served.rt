@@ -67,8 +67,9 @@ impl State for Served {
     ghost step = { step };
 
     /// Operations between two wipes are sorted by their keys, on all processors where there are many, composed for each key and
-    /// done at once by `multi_put`, `multi_del` and `union`, forked within the cut: for n operations and a map of m entries
-    /// O(n * log(n + m)). Few are applied one by one, and so is each wipe, in O(log m).
+    /// done in one pass over the map, by halves forked within the cut: parts with few entries for each key are merged as lists and
+    /// made anew, and few keys for many entries are changed in place. For n operations on k keys and a map of m entries
+    /// O(n * log n + k * log(m / k + 1)). Few operations are applied one by one, and so is each wipe, in O(log m).
     fn change<R: Threads + Sync>(
         &self,
         rt: &R,

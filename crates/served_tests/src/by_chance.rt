@@ -1,4 +1,5 @@
 //! Operations by chance, on a served map and on a plain sorted list.
+ghost use Rattle.std.specs.Prelude.{◌<◌};
 
 use crate::plain::{Chance, apply_plainly};
 use aug_monoid::NoMemory;
@@ -102,5 +103,48 @@ fn long_batch<R: Threads + Sync>(
 #[test]
 fn the_halves_of_a_long_batch_meet(rt: HostRuntime) -> Result<(), Fail> {
     assert_eq!(rt; long_batch(&rt, rt.alloc(), 10_000)?, (true, true));
+    Ok(())
+}
+
+/// Applies lists of so many operations on some keys, and tells whether each left what it leaves of a plain list.
+fn long_runs<R: Threads + Sync>(
+    rt: &R,
+    alloc: Global,
+    cut: Cut,
+    keys: u64,
+    counts: &[u64],
+) -> Result<bool, NoMemory>
+    requires { 0 < keys }
+{
+    let mut chance = Chance::new(8, keys);
+    let mut served = Served::new();
+    let mut list = Vec::new(alloc);
+    let mut same = true;
+    for count in counts {
+        let ops = chance.ops_without_wipes(alloc, *count)?;
+        apply_plainly(&mut list, &ops)?;
+        served = served.apply(rt, alloc, &FreeGate, cut, halves(alloc, &ops)?.as_slice())?;
+        let left = served.map().to_vec(alloc)?;
+        same = same && left.as_slice() == list.as_slice();
+    }
+    Ok(same)
+}
+
+/// Many operations on an empty map, few for each of many entries, and many again.
+const COUNTS: &[u64] = &[5_000, 70, 4_500, 100];
+
+#[test]
+fn many_and_few_operations_by_one_worker_leave_what_a_plain_list_has(
+    rt: HostRuntime,
+) -> Result<(), Fail> {
+    assert!(rt; long_runs(&rt, rt.alloc(), Cut::new(1, 1024), 1_000_000, COUNTS)?);
+    Ok(())
+}
+
+#[test]
+fn many_and_few_operations_by_four_workers_leave_what_a_plain_list_has(
+    rt: HostRuntime,
+) -> Result<(), Fail> {
+    assert!(rt; long_runs(&rt, rt.alloc(), Cut::new(4, 1), 20_000, COUNTS)?);
     Ok(())
 }

@@ -1,8 +1,10 @@
-//! Tests of the served map: what operations leave, by hand and by chance, and a store of it.
+//! Tests of the served map and the served graph: what operations leave, by hand and by chance, and a store of the map.
 #![tactic(auto)]
 
 #[cfg(test)]
 mod by_chance;
+#[cfg(test)]
+mod graphs;
 #[cfg(test)]
 mod plain;
 #[cfg(test)]

@@ -66,6 +66,22 @@ impl Chance {
         }
     }
 
+    /// So many operations, none of which is a wipe.
+    pub(crate) fn ops_without_wipes(
+        &mut self,
+        alloc: Global,
+        count: u64,
+    ) -> Result<Vec<Op>, NoMemory> {
+        let mut ops = Vec::new(alloc);
+        for _turn in 0..count {
+            let op = self.op();
+            if !matches!(op, Op::Wipe { lo: _, hi: _ }) {
+                ops.push(op)?;
+            }
+        }
+        Ok(ops)
+    }
+
     /// So many operations.
     pub(crate) fn ops(&mut self, alloc: Global, count: u64) -> Result<Vec<Op>, NoMemory> {
         let mut ops = Vec::new(alloc);
