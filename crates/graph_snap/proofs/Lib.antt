@@ -7,3 +7,4 @@ pub mod Runs
 pub mod Batched
 pub mod Distances
 pub mod Crosses
+pub mod Listed

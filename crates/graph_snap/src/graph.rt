@@ -7,7 +7,9 @@ ghost use Rattle.graph_snap.specs.Walks.{HasDistances, reach};
 use crate::batch::sets_of;
 use crate::counting::edges_in;
 use crate::edge::{Edge, Reached};
+use crate::listing::edge_list;
 use crate::search::search;
+use crate::search_alone::search_alone;
 use crate::vertices::{Vertices, degree_at, with_sets, without_sets};
 use aug_map::PlainMap;
 use aug_monoid::{NoMemory, Share};
@@ -86,6 +88,13 @@ impl Graph {
         self.edges
     }
 
+    /// The edges in order, in time linear in their number.
+    pub fn list(&self, alloc: Global) -> Result<Vec<Edge>, NoMemory>
+        ensures { IfOk result (λ list. pairs_of list.items ≡ self.now) }
+    {
+        edge_list(alloc, &self.vertices)
+    }
+
     /// How many out-neighbours a vertex has, in time logarithmic in the number of vertices.
     pub fn degree(&self, alloc: Global, vertex: u64) -> Result<u64, NoMemory>
         ensures { IfOk result (λ n. n ≡ length (out_neighbours self.now vertex)) }
@@ -145,5 +154,13 @@ impl Graph {
         ensures least { IfOk result (λ found. HasDistances self.now from found.items) }
     {
         search(rt, alloc, gate, cut, &self.vertices, from)
+    }
+
+    /// What `bfs` answers, on one thread.
+    pub fn bfs_alone(&self, alloc: Global, from: u64) -> Result<Vec<Reached>, NoMemory>
+        ensures value { IfOk result (λ found. found.items ≡ reach self.now from) }
+        ensures least { IfOk result (λ found. HasDistances self.now from found.items) }
+    {
+        search_alone(alloc, &self.vertices, from)
     }
 }

@@ -6,8 +6,10 @@ mod counting;
 mod degrees;
 mod edge;
 mod graph;
+mod listing;
 mod neighbours;
 mod search;
+mod search_alone;
 mod vertices;
 
 pub use degrees::Degrees;

@@ -14,13 +14,13 @@ use std::alloc::Global;
 use std::marker::Sync;
 use std::thread::Threads;
 
-// Vertices with their distances.
-type Distances = CodedMap<Nothing<u64, u64>>;
+/// Vertices with their distances.
+pub(crate) type Distances = CodedMap<Nothing<u64, u64>>;
 
-// The set of each vertex of a front.
+/// The set of each vertex of a front.
 #[derive(Drop)]
-struct Near<'a> {
-    vertices: &'a Vertices,
+pub(crate) struct Near<'a> {
+    pub(crate) vertices: &'a Vertices,
 }
 
 impl<'a> Gives<(u64, u64), u64> for Near<'a> {
@@ -39,8 +39,12 @@ impl<'a> Gives<(u64, u64), u64> for Near<'a> {
     }
 }
 
-// Vertices with one distance.
-fn pairs_at(alloc: Global, near: &[(u64, ())], distance: u64) -> Result<Vec<(u64, u64)>, NoMemory>
+/// Vertices with one distance.
+pub(crate) fn pairs_at(
+    alloc: Global,
+    near: &[(u64, ())],
+    distance: u64,
+) -> Result<Vec<(u64, u64)>, NoMemory>
     ensures { IfOk result (λ pairs. pairs.items ≡ at_distance distance near.now) }
 {
     let pairs = near.iter().map(|entry| (entry.0, distance)).collect(alloc)?;
@@ -82,8 +86,8 @@ fn next_front<R: Threads + Sync, G: Gate>(
     near.difference(rt, alloc, gate, cut, found)
 }
 
-// Distances as a list.
-fn listed(alloc: Global, found: &Distances) -> Result<Vec<Reached>, NoMemory>
+/// Distances as a list.
+pub(crate) fn listed(alloc: Global, found: &Distances) -> Result<Vec<Reached>, NoMemory>
     ensures { IfOk result (λ list. list.items ≡ as_reached found.now.entries) }
 {
     let entries = found.to_vec(alloc)?;
@@ -97,8 +101,8 @@ fn listed(alloc: Global, found: &Distances) -> Result<Vec<Reached>, NoMemory>
     Ok(list)
 }
 
-// The next distance; that there is none is want of memory, since a graph has an edge for each.
-fn further(distance: u64) -> Result<u64, NoMemory>
+/// The next distance; that there is none is want of memory, since a graph has an edge for each.
+pub(crate) fn further(distance: u64) -> Result<u64, NoMemory>
     ensures { IfOk result (λ more. more ≡ distance + 1) }
 {
     match distance.checked_add(1) {

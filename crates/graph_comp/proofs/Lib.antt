@@ -1,0 +1,6 @@
+pub mod Joined
+pub mod Merged
+pub mod Sets
+pub mod Offered
+pub mod InOrder
+pub mod Settling

@@ -1,0 +1,19 @@
+use Rattle.std.proofs.Common.{◌∙◌, ℕ, ap}
+use Rattle.std.proofs.lemmas.Result.{IfOk-weaker}
+use Rattle.map_model.specs.Contents.{Contents}
+use Rattle.graph_snap.specs.Edges.{edges_of}
+use Rattle.graph_snap.specs.Walks.{as_reached}
+use Rattle.graph_snap.proofs.Fronts.{ends_at, goes_on, less_to_go, starts_at}
+use Rattle.graph_snap.proofs.search_alone.search_alone.Goals as goal
+
+pub levels-init : goal.levels-init
+levels-init c = starts_at (edges_of c.args.vertices.now.entries) c.args.from c.in_ok-front.front.entries c.in_ok-found.found.entries c.in_ok-front.ensures (ap (λ (m : Contents ℕ ℕ). m.entries) c.in_ok-found.ensures.value)
+
+pub levels-preserved : goal.levels-preserved
+levels-preserved c = goes_on c.args.vertices.now.entries c.requires.increasing c.args.from c.levels.distance c.in_ok-distance.distance c.levels.front.entries c.levels.found.entries c.in_ok-front-2.front.entries c.in_ok-found-2.found.entries c.levels.invariant c.in_ok-distance.ensures c.in_ok-front-2.ensures c.in_ok-found-2.ensures
+
+pub levels-smaller : goal.levels-smaller
+levels-smaller c = less_to_go (edges_of c.args.vertices.now.entries) c.args.from c.levels.distance c.in_ok-distance.distance c.size.result c.levels.front.entries c.levels.found.entries c.levels.invariant c.in_ok-distance.ensures c.size.ensures.value c.levels-test.true
+
+pub returns : goal.returns
+returns c = IfOk-weaker c.listed.result _ _ (λ list h. h ∙ ap as_reached (ends_at (edges_of c.args.vertices.now.entries) c.args.from c.levels.distance c.size.result c.levels.front.entries c.levels.found.entries c.levels.invariant c.size.ensures.value c.levels-test.false)) c.listed.ensures

@@ -1,0 +1,10 @@
+use Rattle.std.proofs.Common.{◌+◌, ◌-◌, length}
+use Rattle.graph_snap.specs.Edges.{edges_of}
+use Rattle.graph_snap.proofs.Fronts.{IsSearch}
+use Rattle.graph_snap.proofs.search_alone.search_alone.Given as goal
+
+abbrev pub invariant-levels : goal.invariant-levels
+invariant-levels l = IsSearch (edges_of l.vertices.entries) l.from l.distance l.front.entries l.found.entries
+
+abbrev pub decreases-levels : goal.decreases-levels
+decreases-levels l = length (edges_of l.vertices.entries) + 1 - l.distance
