@@ -1,2 +1,4 @@
+pub mod TermFacts
+pub mod IndexFacts
 pub mod Lawful
 pub mod Numbered

@@ -4,8 +4,8 @@ use Rattle.std.specs.List.{flat_map}
 use Rattle.std.specs.Ordering.{nat_cmp}
 use Rattle.map_model.specs.Entries.{set}
 use Rattle.script.specs.Lines.{line_of}
-use Rattle.script.specs.declared.index.IndexCommand.{IndexCommand}
-use Rattle.script.specs.declared.index.IndexCommand.TheVariants as command
+use Rattle.index_tool.specs.declared.commands.IndexCommand.{IndexCommand}
+use Rattle.index_tool.specs.declared.commands.IndexCommand.TheVariants as command
 use Rattle.inverted_index.specs.Terms.{small, weights_of}
 use Rattle.inverted_index.specs.Queries.{Document, is_known, all_of, any_of, without, top, hits_of}
 use Rattle.inverted_index.specs.declared.hit.Hit.{Hit}

@@ -1,1 +1,3 @@
+pub mod Terms
+pub mod IndexRecords
 pub mod Effects

@@ -4,7 +4,7 @@ ghost use Rattle.std.specs.List.{AllByRecursion};
 ghost use Rattle.index_tool.specs.Effects.{docs_numbers, named};
 ghost use Rattle.inverted_index.specs.Queries.{all_of, any_of, hits_of, top, without};
 ghost use Rattle.inverted_index.specs.Terms.{small};
-ghost use Rattle.script.specs.Index.{IsTerm};
+ghost use Rattle.index_tool.specs.Terms.{IsTerm};
 ghost use Rattle.script.specs.Lines.{line_of};
 
 use crate::terms::{term_of, terms_of};

@@ -4,14 +4,15 @@ ghost use Rattle.std.specs.List.{AllByRecursion};
 ghost use Rattle.std.specs.Ordering.{nat_cmp};
 ghost use Rattle.map_model.specs.Entries.{set};
 ghost use Rattle.index_tool.specs.Effects.{doc_after, doc_reply, index_after, index_reply};
-ghost use Rattle.script.specs.Index.{HasTerms};
+ghost use Rattle.index_tool.specs.IndexRecords.{HasTerms};
 ghost use Rattle.script.specs.Replies.{replies};
 
+use crate::IndexCommand;
 use crate::asking::{all_of, any_of, docs_line, top, without};
 use aug_monoid::NoMemory;
 use fork_join::{Cut, Gate};
 use inverted_index::{Added, Index};
-use script::{IndexCommand, line};
+use script::line;
 use std::alloc::Global;
 use std::marker::Sync;
 use std::thread::Threads;

@@ -2,7 +2,7 @@
 ghost use Rattle.std.specs.Prelude.{◌≡◌, IfOk, map};
 ghost use Rattle.std.specs.List.{AllByRecursion};
 ghost use Rattle.inverted_index.specs.Terms.{small};
-ghost use Rattle.script.specs.Index.{IsTerm};
+ghost use Rattle.index_tool.specs.Terms.{IsTerm};
 
 use aug_monoid::NoMemory;
 use inverted_index::{Term, TermFault};

@@ -1,1 +1,2 @@
+pub mod IntervalFacts
 pub mod Ends

@@ -4,8 +4,8 @@ use Rattle.std.specs.List.{flat_map}
 use Rattle.aug_monoid.specs.declared.pair64.Pair64.{Pair64}
 use Rattle.interval_map.specs.Intervals.{interval, overlap, stab, with_interval, without_interval}
 use Rattle.script.specs.Lines.{line_of}
-use Rattle.script.specs.declared.interval.IntervalCommand.{IntervalCommand}
-use Rattle.script.specs.declared.interval.IntervalCommand.TheVariants as command
+use Rattle.interval_tool.specs.declared.commands.IntervalCommand.{IntervalCommand}
+use Rattle.interval_tool.specs.declared.commands.IntervalCommand.TheVariants as command
 
 -- the intervals after a command
 abbrev pub interval_after : List Pair64 → IntervalCommand → List Pair64

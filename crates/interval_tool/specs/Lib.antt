@@ -1,1 +1,2 @@
+pub mod IntervalRecords
 pub mod Effects

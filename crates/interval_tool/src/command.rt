@@ -2,12 +2,13 @@
 ghost use Rattle.std.specs.Prelude.{◌≡◌, ◌++◌, OnOk};
 ghost use Rattle.interval_map.specs.Intervals.{stab};
 ghost use Rattle.interval_tool.specs.Effects.{any_line, count_line, interval_after, interval_reply};
-ghost use Rattle.script.specs.Interval.{HasEnds};
+ghost use Rattle.interval_tool.specs.IntervalRecords.{HasEnds};
 
+use crate::IntervalCommand;
 use crate::hits::hits_line;
 use aug_monoid::NoMemory;
 use interval_map::Intervals;
-use script::{IntervalCommand, line};
+use script::line;
 use std::alloc::Global;
 
 // Appends a word and how many intervals there are.

@@ -1,8 +1,10 @@
-//! The commands of the tool interval, run on one set of intervals: each is one call of the library of intervals.
+//! The tool interval: its commands, read from records and run on one set of intervals: each is one call of the library of intervals.
 #![tactic(auto)]
 
 mod command;
+mod commands;
 mod hits;
 mod running;
 
+pub use commands::IntervalCommand;
 pub use running::run_intervals;

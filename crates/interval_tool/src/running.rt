@@ -2,13 +2,13 @@
 ghost use Rattle.std.specs.Prelude.{◌≡◌, [], IfOk};
 ghost use Rattle.std.specs.List.{AllByRecursion};
 ghost use Rattle.interval_tool.specs.Effects.{interval_after, interval_reply};
-ghost use Rattle.script.specs.Interval.{HasEnds};
+ghost use Rattle.interval_tool.specs.IntervalRecords.{HasEnds};
 ghost use Rattle.script.specs.Replies.{replies};
 
+use crate::IntervalCommand;
 use crate::command::run_command;
 use aug_monoid::NoMemory;
 use interval_map::Intervals;
-use script::IntervalCommand;
 use std::alloc::Global;
 
 /// The replies to commands that are run in order on the set of no intervals. It refuses only for want of memory.

@@ -1,3 +1,4 @@
+pub mod MapFacts
 pub mod Counting
 pub mod Greatest
 pub mod Kept

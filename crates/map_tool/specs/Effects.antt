@@ -7,8 +7,8 @@ use Rattle.map_model.specs.Parts.{next, prev, rank, select, slice}
 use Rattle.map_model.specs.SetOperations.{difference, intersect, union}
 use Rattle.aug_monoid.specs.declared.totals.Totals.{Totals}
 use Rattle.script.specs.Lines.{line_of}
-use Rattle.script.specs.declared.map.MapCommand.{MapCommand}
-use Rattle.script.specs.declared.map.MapCommand.TheVariants as command
+use Rattle.map_tool.specs.declared.commands.MapCommand.{MapCommand}
+use Rattle.map_tool.specs.declared.commands.MapCommand.TheVariants as command
 use Rattle.map_tool.specs.declared.change.Change.{Change}
 use Rattle.map_tool.specs.Registers.{Registers, register, with_register}
 use Rattle.map_tool.specs.Values.{entries_of, numbers_of, overlaps, range_totals, resolved_by, totals_of, values_from, values_within}

@@ -1,7 +1,8 @@
+pub mod How
+pub mod MapRecords
 pub mod Registers
 pub mod Values
 pub mod Effects
-pub mod Kinds
 pub mod Bounds
 pub mod Counts
 pub mod Greatest

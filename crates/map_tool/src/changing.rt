@@ -4,17 +4,16 @@ ghost use Rattle.std.specs.Ordering.{nat_cmp};
 ghost use Rattle.map_model.specs.Entries.{above, below};
 ghost use Rattle.map_model.specs.Parts.{slice};
 ghost use Rattle.map_tool.specs.Effects.{IsChange, effect};
-ghost use Rattle.map_tool.specs.Kinds.{kind_of};
 ghost use Rattle.map_tool.specs.Registers.{maps_of, register};
 ghost use Rattle.map_tool.specs.Values.{values_from};
-ghost use Rattle.map_tool.specs.declared.kind.Kind.TheVariants as kind;
-ghost use Rattle.script.specs.Registers.{HasRegisters};
+ghost use Rattle.map_tool.specs.declared.commands.Kind.TheVariants as kind;
+ghost use Rattle.map_tool.specs.MapRecords.{HasRegisters, kind_of};
 
+use crate::MapCommand;
 use crate::change::Change;
 use crate::registers::{Register, map_at};
 use crate::values::AtLeast;
 use aug_monoid::{NoMemory, Share};
-use script::MapCommand;
 use std::alloc::Global;
 
 fn copy(alloc: Global, registers: &[Register], m: u64) -> Result<Register, NoMemory>

@@ -3,22 +3,22 @@ ghost use Rattle.std.specs.Prelude.{◌≡◌, ◌≤◌, ◌<◌, ◌+◌, ◌+
 ghost use Rattle.std.specs.List.{AllByRecursion};
 ghost use Rattle.map_tool.specs.Bounds.{most_steps};
 ghost use Rattle.map_tool.specs.Effects.{IsEffect, effect, map_after, map_reply};
-ghost use Rattle.map_tool.specs.Kinds.{kind_of};
 ghost use Rattle.map_tool.specs.Registers.{empty_registers, maps_of};
-ghost use Rattle.map_tool.specs.declared.kind.Kind.TheVariants as kind;
-ghost use Rattle.script.specs.Registers.{HasRegisters};
+ghost use Rattle.map_tool.specs.declared.commands.Kind.TheVariants as kind;
+ghost use Rattle.map_tool.specs.MapRecords.{HasRegisters, kind_of};
 ghost use Rattle.script.specs.Replies.{replies};
 
+use crate::MapCommand;
 use crate::asking::answer;
 use crate::change::Change;
 use crate::changing::change;
 use crate::combining::combine;
-use crate::kind::{Kind, kind_of};
+use crate::commands::{Kind, kind_of};
 use crate::registers::{Register, empty_registers, store};
 use crate::replacing::replace;
 use aug_monoid::{NoMemory, Steps};
 use fork_join::{Cut, Gate};
-use script::{MapCommand, line};
+use script::line;
 use std::alloc::Global;
 use std::marker::{Brand, Sync};
 use std::sync::ledger::{Blank, Ledger};

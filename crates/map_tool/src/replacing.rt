@@ -3,16 +3,16 @@ ghost use Rattle.std.specs.Prelude.{◌≡◌, ◌+◌, ◌<◌, ◌≤◌, ◌+
 ghost use Rattle.std.specs.Ordering.{nat_cmp};
 ghost use Rattle.map_model.specs.Entries.{drop_key, set};
 ghost use Rattle.script.specs.Lines.{line_of};
-ghost use Rattle.script.specs.Registers.{HasRegisters};
+ghost use Rattle.map_tool.specs.MapRecords.{HasRegisters, kind_of};
 ghost use Rattle.map_tool.specs.Bounds.{change_steps, height_of, most_steps};
 ghost use Rattle.map_tool.specs.Effects.{map_after, map_reply};
-ghost use Rattle.map_tool.specs.Kinds.{kind_of};
 ghost use Rattle.map_tool.specs.Registers.{maps_of, register, with_register};
-ghost use Rattle.map_tool.specs.declared.kind.Kind.TheVariants as kind;
+ghost use Rattle.map_tool.specs.declared.commands.Kind.TheVariants as kind;
 
+use crate::MapCommand;
 use crate::registers::Register;
 use aug_monoid::{NoMemory, Steps};
-use script::{MapCommand, line};
+use script::line;
 use std::alloc::Global;
 use std::sync::ledger::Ledger;
 

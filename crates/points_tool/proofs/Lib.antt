@@ -1,2 +1,3 @@
+pub mod WeighedFacts
 mod Waiting
 mod Numbered

@@ -7,7 +7,7 @@ use Rattle.map_model.specs.Operations.{after, put, puts}
 use Rattle.map_model.proofs.Operations.{after-append}
 use Rattle.range_tree.specs.declared.points.Point.{Point}
 use Rattle.range_tree.specs.Points.{entry_of}
-use Rattle.script.specs.declared.points.Weighed.{Weighed}
+use Rattle.points_tool.specs.declared.weighed.Weighed.{Weighed}
 use Rattle.points_tool.specs.Effects.{weighed_entries}
 
 -- puts of one list and then of another are puts of both

@@ -9,9 +9,9 @@ use Rattle.range_tree.specs.declared.points.Rect.{Rect}
 use Rattle.range_tree.specs.declared.points.Total.{Total}
 use Rattle.range_tree.specs.Points.{inside, point_of, total_of}
 use Rattle.script.specs.Lines.{line_of}
-use Rattle.script.specs.declared.points.Weighed.{Weighed}
-use Rattle.script.specs.declared.points.PointsCommand.{PointsCommand}
-use Rattle.script.specs.declared.points.PointsCommand.TheVariants as command
+use Rattle.points_tool.specs.declared.weighed.Weighed.{Weighed}
+use Rattle.points_tool.specs.declared.commands.PointsCommand.{PointsCommand}
+use Rattle.points_tool.specs.declared.commands.PointsCommand.TheVariants as command
 
 -- points as entries of the map from (x, y) to weight
 abbrev pub weighed_entries : List Weighed → List (Pair64 × ℕ)

@@ -1,1 +1,3 @@
+pub mod Weighed
+pub mod PointsRecords
 pub mod Effects

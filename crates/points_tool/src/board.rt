@@ -5,10 +5,10 @@ ghost use Rattle.map_model.specs.Operations.{after, puts};
 ghost use Rattle.points_tool.specs.Effects.{weighed_entries};
 ghost use Rattle.range_tree.specs.Points.{entry_of};
 
+use crate::Weighed;
 use aug_monoid::NoMemory;
 use fork_join::{Cut, Gate};
 use range_tree::{Point, Points};
-use script::Weighed;
 use std::alloc::Global;
 use std::marker::{Model, Sync};
 use std::thread::Threads;

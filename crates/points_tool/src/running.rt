@@ -6,12 +6,13 @@ ghost use Rattle.points_tool.specs.Effects.{points_after, points_reply};
 ghost use Rattle.script.specs.Lines.{line_of};
 ghost use Rattle.script.specs.Replies.{replies};
 
+use crate::PointsCommand;
 use crate::asking::{list, rect, total};
 use crate::board::Board;
 use aug_monoid::{NoMemory, Pair64};
 use fork_join::{Cut, Gate};
 use range_tree::Points;
-use script::{PointsCommand, line};
+use script::line;
 use std::alloc::Global;
 use std::marker::Sync;
 use std::thread::Threads;

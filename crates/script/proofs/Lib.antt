@@ -7,8 +7,3 @@ pub mod LineFacts
 pub mod ListFacts
 pub mod RowFacts
 pub mod RegisterFacts
-pub mod SeqFacts
-pub mod IntervalFacts
-pub mod IndexFacts
-pub mod ServeFacts
-pub mod ServeInput

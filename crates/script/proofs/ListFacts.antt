@@ -1,14 +1,10 @@
--- The numbers, terms, pairs or points so far, and those of the fields that are left.
-use Rattle.std.proofs.Common.{◌≡◌, ◌∙◌, ◌+◌, ◌<◌, ◌≤◌, ◌++◌, ℕ, suc, List, [], ◌∷◌, Result, Ok, Err, length, drop, get_or, refl, ap, arith, add-one, drop-cons, append-nil}
+-- The numbers or pairs so far, and those of the fields that are left.
+use Rattle.std.proofs.Common.{◌≡◌, ◌∙◌, ◌+◌, ◌<◌, ◌≤◌, ◌++◌, ℕ, suc, List, [], ◌∷◌, Ok, Err, length, drop, get_or, refl, ap, arith, add-one, drop-cons, append-nil}
 use Rattle.std.proofs.lemmas.List.{drop_all}
 use Rattle.aug_monoid.specs.declared.pair64.Pair64.{Pair64}
-use Rattle.script.specs.Fields.{number_in, numbers_of, pair_of, pairs_of, point_of, points_of, term_in, terms_of}
+use Rattle.script.specs.Fields.{number_in, numbers_of, pair_of, pairs_of}
 use Rattle.script.specs.Records.{Fields}
-use Rattle.script.specs.Results.{CodeFaults}
 use Rattle.script.specs.declared.fault.Code.{Code}
-use Rattle.script.specs.declared.fault.RecordFault.{RecordFault}
-use Rattle.script.specs.declared.fault.RecordFault.TheVariants as record_fault
-use Rattle.script.specs.declared.points.Weighed.{Weighed}
 use Rattle.script.proofs.CommandFacts.{after, with_front}
 
 pub numbers-more : (front : List ℕ) (r : Fields) (at n : ℕ) → at < length r → number_in r at ≡ Ok n
@@ -25,7 +21,7 @@ pub numbers-end : (front : List ℕ) (r : Fields) (at : ℕ) → length r ≤ at
 unfolding numbers_of
 numbers-end front r at h = rw (drop_all at r h) (ap Ok (append-nil front))
 
-two_fields : (r : Fields) (at : ℕ) → at + 1 < length r → drop at r ≡ get_or r at [] ∷ get_or r (at + 1) [] ∷ drop (at + 2) r
+pub two_fields : (r : Fields) (at : ℕ) → at + 1 < length r → drop at r ≡ get_or r at [] ∷ get_or r (at + 1) [] ∷ drop (at + 2) r
 two_fields r at h =
     let one : at + 1 ≡ suc at = omega arith in
     let two : at + 2 ≡ suc (suc at) = omega arith in
@@ -44,42 +40,3 @@ pairs-bad front r at c h e = ap (λ fields. with_front front (pairs_of fields)) 
 pub pairs-end : (front : List Pair64) (r : Fields) (at : ℕ) → length r ≤ at → with_front front (pairs_of (drop at r)) ≡ Ok front
 unfolding pairs_of
 pairs-end front r at h = rw (drop_all at r h) (ap Ok (append-nil front))
-
-pub terms-more : (front : List (List ℕ)) (r : Fields) (at : ℕ) (t : List ℕ) → at < length r → term_in r at ≡ Ok t
-    → with_front front (terms_of (drop at r)) ≡ with_front (front ++ t ∷ []) (terms_of (drop (at + 1) r))
-unfolding terms_of
-terms-more front r at t h e = rw (add-one, drop-cons r at [] h) (rw e (after front t (terms_of (drop (suc at) r))))
-
-terms-bad : (front : List (List ℕ)) (r : Fields) (at : ℕ) (c : Code) → at < length r → term_in r at ≡ Err c
-    → with_front front (terms_of (drop at r)) ≡ Err c
-unfolding terms_of
-terms-bad front r at c h e = rw (drop-cons r at [] h) (rw e refl)
-
--- a fault of the next term is one of the whole
-pub terms-fault : (front : List (List ℕ)) (r : Fields) (at : ℕ) (e : RecordFault) (whole : Result (List (List ℕ)) Code) → at < length r → CodeFaults e (term_in r at)
-    → whole ≡ with_front front (terms_of (drop at r)) → CodeFaults e whole
-terms-fault front r at (record_fault.Bad c) whole h faults is = is ∙ terms-bad front r at c h faults
-terms-fault front r at record_fault.NoMemory whole h faults is = tt
-
-pub terms-end : (front : List (List ℕ)) (r : Fields) (at : ℕ) → length r ≤ at → with_front front (terms_of (drop at r)) ≡ Ok front
-unfolding terms_of
-terms-end front r at h = rw (drop_all at r h) (ap Ok (append-nil front))
-
-three_fields : (r : Fields) (at : ℕ) → at + 2 < length r → drop at r ≡ get_or r at [] ∷ get_or r (at + 1) [] ∷ get_or r (at + 2) [] ∷ drop (at + 3) r
-three_fields r at h =
-    let three : at + 3 ≡ suc (at + 2) = omega arith in
-    two_fields r at (omega arith) ∙ ap (λ rest. get_or r at [] ∷ get_or r (at + 1) [] ∷ rest) (rw three (drop-cons r (at + 2) [] h))
-
-pub points-more : (front : List Weighed) (r : Fields) (at : ℕ) (p : Weighed) → at + 2 < length r → point_of (get_or r at []) (get_or r (at + 1) []) (get_or r (at + 2) []) ≡ Ok p
-    → with_front front (points_of (drop at r)) ≡ with_front (front ++ p ∷ []) (points_of (drop (at + 3) r))
-unfolding points_of
-points-more front r at p h e = ap (λ fields. with_front front (points_of fields)) (three_fields r at h) ∙ rw e (after front p (points_of (drop (at + 3) r)))
-
-pub points-bad : (front : List Weighed) (r : Fields) (at : ℕ) (c : Code) → at + 2 < length r → point_of (get_or r at []) (get_or r (at + 1) []) (get_or r (at + 2) []) ≡ Err c
-    → with_front front (points_of (drop at r)) ≡ Err c
-unfolding points_of
-points-bad front r at c h e = ap (λ fields. with_front front (points_of fields)) (three_fields r at h) ∙ rw e refl
-
-pub points-end : (front : List Weighed) (r : Fields) (at : ℕ) → length r ≤ at → with_front front (points_of (drop at r)) ≡ Ok front
-unfolding points_of
-points-end front r at h = rw (drop_all at r h) (ap Ok (append-nil front))

@@ -3,8 +3,11 @@ use Rattle.std.proofs.Common.{◌≡◌, ◌∙◌, ◌+◌, ◌<◌, ◌≤◌,
 use Rattle.script.proofs.Chosen.{either_way}
 use Rattle.csv.specs.Machine.{Read, ends_at_end, in_field, is_end, next_record, start_field, start_record, step}
 use Rattle.std.proofs.Common.{Bor}
-use Rattle.csv.specs.Reading.{NextIs, ReadRecord, ReadsNext, default_config, records_from, records_next}
+use Rattle.csv.specs.Reading.{ExplainsRead, NextIs, ReadRecord, ReadsNext, default_config, is_flexible, records_from, records_next}
 use Rattle.csv.specs.declared.parser.Action.{Action}
+use Rattle.csv.specs.declared.error.ErrorKind.{ErrorKind}
+use Rattle.csv.specs.declared.error.ErrorKind.TheVariants as error
+use Rattle.std.specs.declared.io.Error.{Error}
 use Rattle.csv.specs.declared.parser.State.{State}
 use Rattle.csv.specs.declared.parser.State.TheVariants as st
 use Rattle.script.specs.Reading.{IsBetween, TextReader, records_after, records_in, unread}
@@ -130,12 +133,12 @@ ended_in s s2 text fields None r = absurd r
 ended_in s s2 text fields (Some z) r = records_after-none s text (next_none _ fields s2 z r)
 
 -- a reader that finds a record gives the first of those that are left
-pub found_record : (a b : TextReader) (fields : Fields) → IsBetween a → ReadRecord (λ (s : Bor (List ℕ)). Some s.now) a b true fields → b.first ≡ true
+pub found_record : (a b : TextReader) (fields : Fields) → IsBetween a → ReadRecord (λ (s : Bor (List ℕ)). Some s.now) a b true fields → b.first ≡ true → is_flexible b ≡ is_flexible a
     → IsBetween b × (records_in a.state (unread a) ≡ fields ∷ records_in b.state (unread b))
-found_record a b fields between r first =
+found_record a b fields between r first same =
     let (z, rest, rests, more) = found_in a.state b.state between.text fields _ between.rests (rw (between.config, between.known) at r.0) in
     let known : unread b ≡ Some z = rw r.1 rest in
-    (record { plain = r.3 ∙ between.plain; ready = inl first; config = r.2 ∙ between.config; text = z; known = known; rests = rests }, rw (between.known, known) more)
+    (record { plain = r.3 ∙ between.plain; flexible = same ∙ between.flexible; ready = inl first; config = r.2 ∙ between.config; text = z; known = known; rests = rests }, rw (between.known, known) more)
 
 -- one that finds none has none left
 pub found_no_record : (a b : TextReader) (fields : Fields) → IsBetween a → ReadRecord (λ (s : Bor (List ℕ)). Some s.now) a b false fields
@@ -147,3 +150,13 @@ found_no_record a b fields between r =
 pub stands_between : (done : Bool) (r : TextReader) → done ≡ false → (done ≡ true) ⊎ IsBetween r → IsBetween r
 stands_between done r e (inl is) = cc
 stands_between done r e (inr between) = between
+
+-- a reader that takes records of any length, as bytes, has no error of its own: either what it reads from failed, or memory ran out
+pub no_other_error : (a b : TextReader) (kind : ErrorKind) → IsBetween a → ExplainsRead (λ (s : Bor (List ℕ)). Some s.now) a b false kind
+    → ((e : Error) → kind ≡ error.Io e → ⊥) → (kind ≡ error.OutOfMemory → ⊥) → ⊥
+no_other_error a b (error.Io e) between why not_io not_memory = not_io e refl
+no_other_error a b error.OutOfMemory between why not_io not_memory = not_memory refl
+no_other_error a b (error.UnequalLengths pos expected len) between why not_io not_memory = let flexible = between.flexible in let stiff = why.0 in cc
+no_other_error a b (error.Utf8 pos err) between why not_io not_memory = let text = why.0 in cc
+no_other_error a b (error.Serialize text) between why not_io not_memory = why
+no_other_error a b (error.Deserialize pos err) between why not_io not_memory = why

@@ -1,16 +1,11 @@
 -- The fields of a record, each lawful or with its code, from left to right.
-use Rattle.std.specs.Prelude.{◌∷◌, ℕ, List, [], codes, Result, Ok, Err, Option, Some, None, slice_index_or, nat_lt, if◌then◌else◌}
-use Rattle.std.specs.Str.{bytes_eq}
+use Rattle.std.specs.Prelude.{◌∷◌, ℕ, List, [], Result, Ok, Err, Option, Some, None, slice_index_or, nat_lt, if◌then◌else◌}
 use Rattle.aug_monoid.specs.declared.pair64.Pair64.{Pair64}
 use Rattle.script.specs.Numbers.{number_of}
 use Rattle.script.specs.Records.{Fields}
 use Rattle.script.specs.Results.{◌>>=◌}
-use Rattle.script.specs.Terms.{is_term}
 use Rattle.script.specs.declared.fault.Code.{Code}
 use Rattle.script.specs.declared.fault.Code.TheVariants as code
-use Rattle.script.specs.declared.map.How.{How}
-use Rattle.script.specs.declared.map.How.TheVariants as how
-use Rattle.script.specs.declared.points.Weighed.{Weighed}
 
 -- the field at a place, or nothing past the record's end
 abbrev pub field : Fields → ℕ → List ℕ
@@ -31,32 +26,6 @@ fitting_register (Some n) = if nat_lt n 16 then Some n else None
 
 abbrev pub register_in : Fields → ℕ → Result ℕ Code
 register_in r i = or_code code.Register (fitting_register (number_of (field r i)))
-
--- how two values meet
-unfoldable pub how_named : List ℕ → Option How
-how_named word =
-    if bytes_eq word (codes "first") then Some how.First
-    else if bytes_eq word (codes "second") then Some how.Second
-    else if bytes_eq word (codes "sum") then Some how.Sum
-    else if bytes_eq word (codes "max") then Some how.Max
-    else None
-
-abbrev pub how_in : Fields → ℕ → Result How Code
-how_in r i = or_code code.How (how_named (field r i))
-
-abbrev pub term_of : List ℕ → Result (List ℕ) Code
-term_of bytes = if is_term bytes then Ok bytes else Err code.Term
-
-abbrev pub term_in : Fields → ℕ → Result (List ℕ) Code
-term_in r i = term_of (field r i)
-
--- fields that are all terms
-unfoldable pub terms_of : Fields → Result (List (List ℕ)) Code
-terms_of [] = Ok []
-terms_of (f ∷ fs) = do
-  t ← term_of f
-  ts ← terms_of fs
-  Ok (t ∷ ts)
 
 -- fields that are all numbers
 unfoldable pub numbers_of : Fields → Result (List ℕ) Code
@@ -80,20 +49,3 @@ pairs_of (a ∷ b ∷ fs) = do
   pair ← pair_of a b
   pairs ← pairs_of fs
   Ok (pair ∷ pairs)
-
-abbrev pub point_of : List ℕ → List ℕ → List ℕ → Result Weighed Code
-point_of a b c = do
-  x ← or_code code.Number (number_of a)
-  y ← or_code code.Number (number_of b)
-  w ← or_code code.Number (number_of c)
-  Ok (record { x = x; y = y; w = w })
-
--- fields that are points with their weights
-unfoldable pub points_of : Fields → Result (List Weighed) Code
-points_of [] = Ok []
-points_of (a ∷ []) = Err code.Fields
-points_of (a ∷ b ∷ []) = Err code.Fields
-points_of (a ∷ b ∷ c ∷ fs) = do
-  point ← point_of a b c
-  points ← points_of fs
-  Ok (point ∷ points)

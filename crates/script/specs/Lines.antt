@@ -11,7 +11,11 @@ comma = 44
 abbrev pub line_feed : ℕ
 line_feed = 10
 
--- a word, then a comma and a decimal number for each number, then a line feed
+-- a word, then a comma and a decimal number for each number
+abbrev pub reply_of : List ℕ → List ℕ → List ℕ
+reply_of word numbers = word ++ flat_map (λ n. comma ∷ decimal n) numbers
+
+-- the same, then a line feed
 abbrev pub line_of : List ℕ → List ℕ → List ℕ
 line_of word numbers = word ++ flat_map (λ n. comma ∷ decimal n) numbers ++ line_feed ∷ []
 
@@ -26,6 +30,7 @@ code_word code.Callers = codes "callers"
 code_word code.Caller = codes "caller"
 code_word code.Op = codes "op"
 code_word code.Interval = codes "interval"
+code_word code.Run = codes "run"
 
 -- the one line for a bad record
 abbrev pub error_line_of : BadRecord → List ℕ

@@ -1,8 +1,8 @@
 -- What is left to read of a text's records.
-use Rattle.std.specs.Prelude.{◌≡◌, ◌+◌, [], ℕ, Bool, false, List, length, Some, None, Option, if◌then◌else◌}
+use Rattle.std.specs.Prelude.{◌≡◌, ◌+◌, [], ℕ, Bool, true, false, List, length, Some, None, Option, if◌then◌else◌}
 use Rattle.std.proofs.Common.{Bor}
 use Rattle.csv.specs.Machine.{ends_at_end}
-use Rattle.csv.specs.Reading.{Ready, default_config, records_from, source_of}
+use Rattle.csv.specs.Reading.{Ready, default_config, is_flexible, records_from, source_of}
 use Rattle.csv.specs.Records.{Row}
 use Rattle.csv.specs.declared.parser.State.{State}
 use Rattle.csv.specs.declared.reader.Reader.{Reader}
@@ -28,9 +28,10 @@ records_in s (Some text) = records_after s text
 abbrev pub left_of : Bool → TextReader → List Fields
 left_of done r = if done then [] else records_in r.state (unread r)
 
--- a reader that stands between two records, with no header row and no trimming
+-- a reader that stands between two records, with no header row and no trimming, and which takes records of any length
 pub record IsBetween (r : TextReader) : Type 0 where
   pub plain : r.trim ≡ trim.None
+  pub flexible : is_flexible r ≡ true
   pub ready : Ready r
   pub config : r.config ≡ default_config
   pub text : List ℕ

@@ -1,13 +1,11 @@
 -- The shapes of whole records: how many fields they have, and what each is, from left to right.
 use Rattle.std.specs.Prelude.{◌==◌, ◌%◌, ℕ, List, drop, length, Result, Ok, Err, nat_le, if◌then◌else◌}
 use Rattle.aug_monoid.specs.declared.pair64.Pair64.{Pair64}
-use Rattle.script.specs.Fields.{field, how_in, number_in, numbers_of, pairs_of, points_of, register_in, term_in, terms_of}
+use Rattle.script.specs.Fields.{field, number_in, numbers_of, pairs_of, register_in}
 use Rattle.script.specs.Records.{Fields}
 use Rattle.script.specs.Results.{◌>>=◌}
 use Rattle.script.specs.declared.fault.Code.{Code}
 use Rattle.script.specs.declared.fault.Code.TheVariants as code
-use Rattle.script.specs.declared.map.How.{How}
-use Rattle.script.specs.declared.points.Weighed.{Weighed}
 
 -- reading goes on only in a record with so many fields
 abbrev pub with_fields : {A : Type 0} → ℕ → Fields → Result A Code → Result A Code
@@ -94,15 +92,6 @@ three_registers r = with_fields 4 r (do
   c ← register_in r 3
   Ok (a, b, c))
 
--- a verb, three registers and how two values meet
-abbrev pub three_registers_how : Fields → Result (ℕ × ℕ × ℕ × How) Code
-three_registers_how r = with_fields 5 r (do
-  a ← register_in r 1
-  b ← register_in r 2
-  c ← register_in r 3
-  h ← how_in r 4
-  Ok (a, b, c, h))
-
 -- a verb alone
 abbrev pub alone : Fields → Result (Unit {0}) Code
 alone r = with_fields 1 r (Ok tt)
@@ -138,25 +127,6 @@ two_ends r = two_numbers r >>= in_order
 -- a verb and any number of pairs of numbers, at least one
 abbrev pub some_pairs : Fields → Result (List Pair64) Code
 some_pairs r = with_at_least 3 r (with_groups 2 r (pairs_of (drop 1 r)))
-
--- a verb and any number of points with their weights, at least one
-abbrev pub some_points : Fields → Result (List Weighed) Code
-some_points r = with_at_least 4 r (with_groups 3 r (points_of (drop 1 r)))
-
--- a verb and any number of terms, at least one
-abbrev pub some_terms : Fields → Result (List (List ℕ)) Code
-some_terms r = with_at_least 2 r (terms_of (drop 1 r))
-
--- a verb and two terms
-abbrev pub two_terms : Fields → Result (List (List ℕ)) Code
-two_terms r = with_fields 3 r (terms_of (drop 1 r))
-
--- a verb, a number and a term
-abbrev pub number_term : Fields → Result (ℕ × List ℕ) Code
-number_term r = with_fields 3 r (do
-  n ← number_in r 1
-  t ← term_in r 2
-  Ok (n, t))
 
 -- a verb, a number and a text
 abbrev pub number_text : Fields → Result (ℕ × List ℕ) Code

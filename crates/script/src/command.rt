@@ -12,7 +12,7 @@ use csv::ByteRecord;
 use std::alloc::Global;
 
 /// A command of a tool.
-pub(crate) trait Command: Sized + Drop {
+pub trait Command: Sized + Drop {
     ghost use Rattle.std.specs.Prelude.{ℕ, List, Result};
     ghost use Rattle.script.specs.declared.fault.Code.{Code};
 
@@ -36,7 +36,7 @@ fn read_at<C: Command>(alloc: Global, place: u64, row: &ByteRecord) -> Result<C,
 }
 
 /// The commands of a text's records, or the first bad record.
-pub(crate) fn read_all<C: Command>(alloc: Global, text: &[u8]) -> Result<Items<C>, ScriptFault>
+pub fn read_all<C: Command>(alloc: Global, text: &[u8]) -> Result<Items<C>, ScriptFault>
     ensures { Gives result (commands_from C.reading 1 (records_of text.now)) }
 {
     let mut records = Records::new(alloc, text);

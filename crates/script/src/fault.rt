@@ -31,6 +31,8 @@ pub enum Code {
     Op,
     /// The first end of an interval is greater than its last.
     Interval,
+    /// There is no line `run` where one is wanted.
+    Run,
 }
 
 /// The first bad record, by its number from 1.
@@ -42,7 +44,7 @@ pub struct BadRecord {
 
 /// Why one record gave no command.
 #[derive(Debug, Drop, PartialEq, Eq)]
-pub(crate) enum RecordFault {
+pub enum RecordFault {
     Bad(Code),
     NoMemory,
 }

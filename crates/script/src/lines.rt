@@ -1,6 +1,6 @@
 //! Lines of text: a word, and numbers behind commas.
-ghost use Rattle.std.specs.Prelude.{◌≡◌, ◌+◌, ◌<◌, ◌≤◌, ◌++◌, ◌∷◌, ℕ, List, MatchResult, OnErr, decimal, length, vec_capacity};
-ghost use Rattle.script.specs.Lines.{IsPrefix, code_word, comma, error_line_of, line_of};
+ghost use Rattle.std.specs.Prelude.{◌≡◌, ◌+◌, ◌<◌, ◌≤◌, ◌++◌, ◌∷◌, ℕ, List, MatchResult, OnErr, OnOk, decimal, length, vec_capacity};
+ghost use Rattle.script.specs.Lines.{IsPrefix, code_word, comma, error_line_of, line_of, reply_of};
 
 use crate::{BadRecord, Code};
 use aug_monoid::NoMemory;
@@ -20,6 +20,7 @@ fn code_word(code: Code) -> &'static str
         Code::Caller => "caller",
         Code::Op => "op",
         Code::Interval => "interval",
+        Code::Run => "run",
     }
 }
 
@@ -51,6 +52,17 @@ pub fn push_part(out: &mut Vec<u8>, number: u64) -> Result<(), NoMemory>
 {
     out.push(b',')?;
     push_number(out, number)
+}
+
+/// Appends a word, and a comma and a number for each number, or the first part of them.
+pub fn reply(out: &mut Vec<u8>, word: &str, numbers: &[u64]) -> Result<(), NoMemory>
+    ensures { OnOk result (out.new.items ≡ out.old.items ++ reply_of word.now numbers.now) }
+{
+    push_bytes(out, word.as_bytes())?;
+    for number in numbers {
+        push_part(out, *number)?;
+    }
+    Ok(())
 }
 
 // Appends a line, or the first part of it.

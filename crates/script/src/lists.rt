@@ -1,12 +1,11 @@
-//! Lists of fields: numbers, pairs, points and terms up to the record's end.
+//! Lists of fields: numbers and pairs up to the record's end.
 ghost use Rattle.std.specs.Prelude.{◌≡◌, ◌-◌, ◌≤◌, ◌%◌, drop, length};
 ghost use Rattle.csv.specs.Records.{fields_of};
-ghost use Rattle.script.specs.Fields.{numbers_of, pairs_of, points_of, terms_of};
+ghost use Rattle.script.specs.Fields.{numbers_of, pairs_of};
 ghost use Rattle.script.specs.Results.{GivesCode};
 
-use crate::fault::RecordFault;
-use crate::fields::{number_at, pair_at, point_at, term_at};
-use crate::{Items, Weighed};
+use crate::fields::{number_at, pair_at};
+use crate::{Items, RecordFault};
 use aug_monoid::Pair64;
 use csv::ByteRecord;
 use std::alloc::Global;
@@ -39,29 +38,4 @@ pub(crate) fn pairs_from(
         pairs.push(pair_at(row, 2 * i + start)?)?;
     }
     Ok(Items::new(pairs))
-}
-
-/// The points with their weights from the second field on.
-pub(crate) fn points_from(alloc: Global, row: &ByteRecord) -> Result<Items<Weighed>, RecordFault>
-    requires { length (fields_of row.now) % 3 ≡ 1 }
-    ensures { GivesCode result (points_of (drop 1 (fields_of row.now))) }
-{
-    let count = row.len() / 3;
-    let mut points = Vec::new(alloc);
-    for i in 0..count {
-        points.push(point_at(row, 3 * i + 1)?)?;
-    }
-    Ok(Items::new(points))
-}
-
-/// The terms from the second field on.
-pub(crate) fn terms_from(alloc: Global, row: &ByteRecord) -> Result<Items<Items<u8>>, RecordFault>
-    requires { 1 ≤ length (fields_of row.now) }
-    ensures { GivesCode result (terms_of (drop 1 (fields_of row.now))) }
-{
-    let mut terms = Vec::new(alloc);
-    for place in 1..row.len() {
-        terms.push(term_at(alloc, row, place)?)?;
-    }
-    Ok(Items::new(terms))
 }

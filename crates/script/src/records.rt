@@ -4,13 +4,13 @@ ghost use Rattle.csv.specs.Records.{fields_of};
 ghost use Rattle.script.specs.Records.{records_of};
 
 use aug_monoid::NoMemory;
-use csv::{ByteRecord, Reader, ReaderBuilder};
+use csv::{ByteRecord, ErrorKind, Reader, ReaderBuilder};
 use std::alloc::Global;
 use std::marker::Model;
 
 /// The records of a text: the one at hand, and those that are left.
 #[derive(Drop)]
-pub(crate) struct Records<'a> {
+pub struct Records<'a> {
     reader: Reader<&'a [u8]>,
     current: ByteRecord,
     done: bool,
@@ -28,7 +28,7 @@ impl<'a> Model for Records<'a> {
 }
 
 impl<'a> Records<'a> {
-    pub(crate) fn new(alloc: Global, text: &'a [u8]) -> Records<'a>
+    pub fn new(alloc: Global, text: &'a [u8]) -> Records<'a>
         ensures { result.left ≡ records_of text.now }
     {
         let reader = ReaderBuilder::new()
@@ -43,27 +43,31 @@ impl<'a> Records<'a> {
     }
 
     /// Goes on to the next record, and says whether there is one.
-    pub(crate) fn advance(&mut self) -> Result<bool, NoMemory>
+    pub fn advance(&mut self) -> Result<bool, NoMemory>
         ensures { IfOk result (λ found. MatchBool found (self.old.left ≡ fields_of self.new.current ∷ self.new.left) (self.old.left ≡ [])) }
     {
         if self.done {
             return Ok(false);
         }
         match self.reader.read_byte_record(&mut self.current) {
-            Ok(true) => return Ok(true),
+            Ok(true) => Ok(true),
             Ok(false) => {
                 self.done = true;
-                return Ok(false);
+                Ok(false)
             }
-            Err(_) => {
+            Err(error) => {
                 self.done = true;
-                return Err(NoMemory);
+                match error.kind() {
+                    // Bytes in memory are read without an error of their own.
+                    ErrorKind::OutOfMemory | ErrorKind::Io(_) => Err(NoMemory),
+                    _ => unreachable!(),
+                }
             }
         }
     }
 
     /// The record at hand.
-    pub(crate) fn current(&self) -> &ByteRecord
+    pub fn current(&self) -> &ByteRecord
         ensures { result.now ≡ self.now.current }
     {
         &self.current

@@ -1,2 +1,3 @@
+pub mod SeqFacts
 pub mod Kept
 pub mod Runs

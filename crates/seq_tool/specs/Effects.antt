@@ -3,8 +3,8 @@ use Rattle.std.specs.Prelude.{◌≡◌, [], ◌∷◌, ◌++◌, ℕ, List, Opt
 use Rattle.aug_monoid.specs.Totals.{totals_base, totals_combine, totals_unit}
 use Rattle.aug_monoid.specs.declared.totals.Totals.{Totals}
 use Rattle.script.specs.Lines.{line_of}
-use Rattle.script.specs.declared.seq.SeqCommand.{SeqCommand}
-use Rattle.script.specs.declared.seq.SeqCommand.TheVariants as command
+use Rattle.seq_tool.specs.declared.commands.SeqCommand.{SeqCommand}
+use Rattle.seq_tool.specs.declared.commands.SeqCommand.TheVariants as command
 use Rattle.seq_core.specs.Sums.{sum_of}
 use Rattle.seq_tool.specs.Registers.{Registers, register, with_register}
 use Rattle.seq_tool.specs.declared.change.Change.{Change}

@@ -1,2 +1,3 @@
+pub mod SeqRecords
 pub mod Registers
 pub mod Effects

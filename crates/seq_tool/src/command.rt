@@ -2,17 +2,18 @@
 ghost use Rattle.std.specs.Prelude.{◌≡◌, ◌<◌, ◌++◌, length, IfOk, OnErr, OnOk};
 ghost use Rattle.std.specs.List.{AllByRecursion};
 ghost use Rattle.script.specs.Replies.{replies};
-ghost use Rattle.script.specs.Seq.{NamesRegisters};
+ghost use Rattle.seq_tool.specs.SeqRecords.{NamesRegisters};
 ghost use Rattle.seq_tool.specs.Effects.{IsEffect, effect, seq_after, seq_reply};
 ghost use Rattle.seq_tool.specs.Registers.{empty_registers, lists_of};
 
+use crate::SeqCommand;
 use crate::asking::{at, fold, list, size};
 use crate::change::Change;
 use crate::changing::{append, push, reverse, set};
 use crate::registers::{Register, empty_registers, seq_at, store};
 use aug_monoid::{NoMemory, Steps};
 use fork_join::{Cut, Gate};
-use script::{SeqCommand, line};
+use script::line;
 use std::alloc::Global;
 use std::marker::{Brand, Sync};
 use std::sync::ledger::{Blank, Ledger};

@@ -8,9 +8,9 @@ use aug_monoid::NoMemory;
 use batch_store::Store;
 use fork_join::{Cut, FreeGate};
 use op_runs::Op;
-use script::{ServeQuery, serve_commands};
 use serve_answers::ServedMap;
 use serve_rounds::{finish, run_rounds};
+use serve_script::{ServeOp, ServeQuery, served_commands};
 use serve_text::Record;
 use std::alloc::Global;
 use std::marker::Sync;
@@ -42,8 +42,8 @@ pub(crate) fn time<R: Threads + Wait + Sync + Clock>(
     cut: Cut,
     bytes: &[u8],
 ) -> Result<Timed> {
-    let commands = serve_commands(alloc, bytes)?;
-    let records = serve_input::records(alloc, commands.items())?;
+    let commands = served_commands::<ServeOp, ServeQuery>(alloc, bytes)?;
+    let records: Vec<Record<Op, ServeQuery>> = serve_input::records(alloc, commands.items())?;
     let callers = serve_input::callers(commands.items());
     let start = Instant::now(rt)?;
     let text = served(rt, alloc, cut, callers, &records)?;

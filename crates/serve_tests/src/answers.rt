@@ -2,8 +2,8 @@
 
 use aug_monoid::NoMemory;
 use fork_join::{Cut, FreeGate};
-use script::ServeQuery;
 use serve_answers::ServedMap;
+use serve_script::ServeQuery;
 use serve_text::Answers;
 use served_map::Op;
 use std::alloc::Global;

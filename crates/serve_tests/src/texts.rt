@@ -1,7 +1,7 @@
 //! The lines of a version that nothing has changed.
 use aug_monoid::NoMemory;
-use script::ServeQuery;
 use serve_answers::ServedMap;
+use serve_script::ServeQuery;
 use serve_text::{reply_line, write_rest};
 use std::alloc::Global;
 use std::test::Fail;

@@ -1,7 +1,7 @@
 use Rattle.std.proofs.Common.{◌≡◌, ◌++◌, [], drop}
 use Rattle.std.specs.List.{AllByRecursion}
 use Rattle.index_tool.specs.Effects.{index_after, index_reply}
-use Rattle.script.specs.Index.{HasTerms}
+use Rattle.index_tool.specs.IndexRecords.{HasTerms}
 use Rattle.script.specs.Replies.{replies}
 use Rattle.index_tool.proofs.running.run_index.Given as goal
 

@@ -1,7 +1,7 @@
 use Rattle.std.proofs.Common.{◌≡◌, ◌++◌, [], drop}
 use Rattle.std.specs.List.{AllByRecursion}
 use Rattle.interval_tool.specs.Effects.{interval_after, interval_reply}
-use Rattle.script.specs.Interval.{HasEnds}
+use Rattle.interval_tool.specs.IntervalRecords.{HasEnds}
 use Rattle.script.specs.Replies.{replies}
 use Rattle.interval_tool.proofs.running.run_intervals.Given as goal
 

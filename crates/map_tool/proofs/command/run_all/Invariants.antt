@@ -2,7 +2,7 @@ use Rattle.std.proofs.Common.{◌≡◌, ◌++◌, drop, length}
 use Rattle.std.specs.List.{AllByRecursion}
 use Rattle.map_tool.specs.Effects.{map_after, map_reply}
 use Rattle.map_tool.specs.Registers.{maps_of}
-use Rattle.script.specs.Registers.{HasRegisters}
+use Rattle.map_tool.specs.MapRecords.{HasRegisters}
 use Rattle.script.specs.Replies.{replies}
 use Rattle.map_tool.proofs.command.run_all.Given as goal
 

@@ -1,7 +1,7 @@
 use Rattle.std.proofs.Common.{◌≡◌, ◌++◌, drop, length}
 use Rattle.std.specs.List.{AllByRecursion}
 use Rattle.script.specs.Replies.{replies}
-use Rattle.script.specs.Seq.{NamesRegisters}
+use Rattle.seq_tool.specs.SeqRecords.{NamesRegisters}
 use Rattle.seq_tool.specs.Effects.{seq_after, seq_reply}
 use Rattle.seq_tool.specs.Registers.{lists_of}
 use Rattle.seq_tool.proofs.command.run_all.Given as goal

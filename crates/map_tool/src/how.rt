@@ -1,0 +1,56 @@
+//! How two values meet, and the fields of a record that tell it.
+ghost use Rattle.std.specs.Prelude.{◌≡◌};
+ghost use Rattle.csv.specs.Records.{fields_of};
+ghost use Rattle.map_tool.specs.How.{how_in, how_named, three_registers_how};
+
+use csv::ByteRecord;
+use script::Code;
+use script::fields::{field_at, register_at};
+
+/// How the value of `a` and the value of `b` meet at a key that both have.
+#[derive(Clone, Copy, Debug, PartialEq, Eq)]
+pub enum How {
+    /// The value of `a`.
+    First,
+    /// The value of `b`.
+    Second,
+    /// Their saturating sum.
+    Sum,
+    /// The greater one.
+    Max,
+}
+
+#[tactic(auto, unfolding(crate::specs::How::how_named))]
+fn how_of(word: &[u8]) -> Option<How>
+    ensures { result ≡ how_named word.now }
+{
+    if word == b"first".as_slice() {
+        Some(How::First)
+    } else if word == b"second".as_slice() {
+        Some(How::Second)
+    } else if word == b"sum".as_slice() {
+        Some(How::Sum)
+    } else if word == b"max".as_slice() {
+        Some(How::Max)
+    } else {
+        None
+    }
+}
+
+// How two values meet, by the word at a place.
+fn how_at(row: &ByteRecord, place: usize) -> Result<How, Code>
+    ensures { result ≡ how_in (fields_of row.now) place }
+{
+    how_of(field_at(row, place)).ok_or(Code::How)
+}
+
+/// The fields of a verb, three registers and how two values meet.
+pub(crate) fn three_registers_how(row: &ByteRecord) -> Result<(u64, u64, u64, How), Code>
+    ensures { result ≡ three_registers_how (fields_of row.now) }
+{
+    if row.len() != 5 {
+        return Err(Code::Fields);
+    }
+    let (first, second) = (register_at(row, 1)?, register_at(row, 2)?);
+    Ok((first, second, register_at(row, 3)?, how_at(row, 4)?))
+}

@@ -1,7 +1,0 @@
-use Rattle.std.proofs.Common.{◌∙◌, arith, sym}
-use Rattle.csv.specs.Records.{fields_of}
-use Rattle.script.proofs.ServeFacts.{number-next}
-use Rattle.script.proofs.serve_records.next_number.Goals as goal
-
-pub returns : goal.returns
-returns c = c.number_at.ensures ∙ sym (number-next (fields_of c.args.row.now) c.args.place (omega arith))

@@ -1,0 +1,5 @@
+pub mod Words
+pub mod WordLaws
+pub mod Serve
+pub mod ServeLaws
+pub mod Served

@@ -1,0 +1,17 @@
+//! The commands of the tools that serve callers, read from records: they differ in their operations and queries alone.
+#![tactic(auto)]
+
+mod commands;
+mod map_words;
+mod records;
+mod words;
+
+pub use commands::ServedCommand;
+pub use map_words::{ServeOp, ServeQuery};
+pub use records::served_commands;
+pub use words::{
+    Operation, Query, next_number, next_numbers, no_query_number, query_number, query_numbers,
+};
+
+/// A command of the tool serve.
+pub type ServeCommand = ServedCommand<ServeOp, ServeQuery>;
