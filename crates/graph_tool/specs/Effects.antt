@@ -2,14 +2,16 @@
 use Rattle.std.specs.Prelude.{[], ◌∷◌, ◌++◌, ℕ, List, Option, None, Some, codes, length, map, slice_get}
 use Rattle.std.specs.List.{flat_map}
 use Rattle.aug_monoid.specs.declared.pair64.Pair64.{Pair64}
+use Rattle.graph_comp.specs.Components.{components}
+use Rattle.graph_comp.specs.declared.labelled.Labelled.{Labelled}
 use Rattle.graph_snap.specs.Edges.{out_neighbours, pairs_of, sources, with_edges, without_edges}
 use Rattle.graph_snap.specs.Walks.{reach}
 use Rattle.graph_snap.specs.declared.edge.Edge.{Edge}
 use Rattle.graph_snap.specs.declared.edge.Reached.{Reached}
 use Rattle.graph_tool.specs.declared.graphs.Graphs as rust
 use Rattle.script.specs.Lines.{line_of}
-use Rattle.script.specs.declared.graph.GraphCommand.{GraphCommand}
-use Rattle.script.specs.declared.graph.GraphCommand.TheVariants as command
+use Rattle.graph_tool.specs.declared.commands.GraphCommand.{GraphCommand}
+use Rattle.graph_tool.specs.declared.commands.GraphCommand.TheVariants as command
 
 -- the present graph, and the kept ones in the order in which they were kept, each the list of its edges
 pub record Graphs : Type 0 where
@@ -37,6 +39,13 @@ numbers_of found = flat_map (λ r. r.vertex ∷ r.distance ∷ []) found
 abbrev pub reached_line : List Reached → List ℕ
 reached_line found = line_of (codes "bfs") (length found ∷ numbers_of found)
 
+-- vertices and the least vertices of their components, one after another
+abbrev pub component_numbers : List Labelled → List ℕ
+component_numbers found = flat_map (λ l. l.vertex ∷ l.label ∷ []) found
+
+abbrev pub components_line : List Labelled → List ℕ
+components_line found = line_of (codes "comp") (length found ∷ component_numbers found)
+
 -- what a search from u finds in a graph that may be absent
 abbrev pub search_line : Option (List (ℕ × ℕ)) → ℕ → List ℕ
 search_line None u = line_of (codes "none") []
@@ -55,6 +64,7 @@ graph_reply s (command.Size place) = line_of (codes "graph") (length (sources s.
 graph_reply s (command.Degree place u) = line_of (codes "degree") (length (out_neighbours s.present u) ∷ [])
 graph_reply s (command.Now place u) = reached_line (reach s.present u)
 graph_reply s (command.Bfs place at u) = kept_search s.kept at u
+graph_reply s (command.Comp place) = components_line (components s.present)
 
 -- the graphs that a value of the program stands for
 abbrev pub seen : rust.Graphs → Graphs

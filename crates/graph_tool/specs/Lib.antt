@@ -1,1 +1,2 @@
+pub mod GraphRecords
 pub mod Effects

@@ -1,15 +1,18 @@
 //! One command of the tool graph.
 ghost use Rattle.std.specs.Prelude.{◌≡◌, ◌++◌, ◌∷◌, [], OnOk, codes, slice_get};
+ghost use Rattle.graph_comp.specs.Components.{components};
 ghost use Rattle.graph_snap.specs.Walks.{reach};
-ghost use Rattle.graph_tool.specs.Effects.{graph_after, graph_reply, kept_search, reached_line, seen};
+ghost use Rattle.graph_tool.specs.Effects.{components_line, graph_after, graph_reply, kept_search, reached_line, seen};
 ghost use Rattle.script.specs.Lines.{line_of};
 
+use crate::GraphCommand;
 use crate::graphs::{Graphs, edges_in};
-use crate::replies::reached;
+use crate::replies::{labelled, reached};
 use aug_monoid::NoMemory;
 use fork_join::{Cut, Gate};
+use graph_comp::components;
 use graph_snap::Graph;
-use script::{GraphCommand, line};
+use script::line;
 use std::alloc::Global;
 use std::marker::Sync;
 use std::thread::Threads;
@@ -47,6 +50,21 @@ fn search_kept<R: Threads + Sync, G: Gate>(
         Some(graph) => search(rt, alloc, gate, cut, text, graph, from),
         None => line(text, "none", &[]),
     }
+}
+
+// Appends the reply that lists the components of a graph.
+fn list_components<R: Threads + Sync, G: Gate>(
+    rt: &R,
+    alloc: Global,
+    gate: &G,
+    cut: Cut,
+    text: &mut Vec<u8>,
+    graph: &Graph,
+) -> Result<(), NoMemory>
+    ensures { OnOk result (text.new.items ≡ text.old.items ++ components_line (components graph.now)) }
+{
+    let found = components(rt, alloc, gate, cut, graph)?;
+    labelled(alloc, text, &found)
 }
 
 /// Runs one command on graphs, and appends its reply.
@@ -93,5 +111,6 @@ pub(crate) fn graph_command<R: Threads + Sync, G: Gate>(
         GraphCommand::Bfs { s, u, .. } => {
             search_kept(rt, alloc, gate, cut, text, &graphs.kept, *s, *u)
         }
+        GraphCommand::Comp { .. } => list_components(rt, alloc, gate, cut, text, &graphs.present),
     }
 }

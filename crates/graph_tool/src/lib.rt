@@ -1,9 +1,12 @@
-//! The commands of the tool graph, run on the present graph and the kept ones.
+//! The tool graph: its commands, read from records and run on the present graph and the kept ones.
 #![tactic(auto)]
 
 mod command;
+mod commands;
 mod graphs;
 mod replies;
 mod running;
 
+pub use commands::GraphCommand;
+pub use replies::reached_numbers;
 pub use running::run_graph;

@@ -3,11 +3,11 @@ ghost use Rattle.std.specs.Prelude.{◌≡◌, IfOk};
 ghost use Rattle.graph_tool.specs.Effects.{graph_after, graph_reply, no_graphs};
 ghost use Rattle.script.specs.Replies.{replies};
 
+use crate::GraphCommand;
 use crate::command::graph_command;
 use crate::graphs::no_graphs;
 use aug_monoid::NoMemory;
 use fork_join::{Cut, Gate};
-use script::GraphCommand;
 use std::alloc::Global;
 use std::marker::Sync;
 use std::thread::Threads;

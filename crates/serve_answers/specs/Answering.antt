@@ -1,15 +1,14 @@
 -- What a map from numbers to numbers answers.
-use Rattle.std.specs.Prelude.{◌++◌, ◌∷◌, [], ℕ, List, Option, Some, None, codes, decimal, length}
-use Rattle.std.specs.List.{flat_map}
+use Rattle.std.specs.Prelude.{◌∷◌, [], ℕ, List, Option, Some, None, codes, length}
 use Rattle.std.specs.Ordering.{nat_cmp}
 use Rattle.map_model.specs.Entries.{lookup}
 use Rattle.map_model.specs.Fold.{fold_of, range_fold}
 use Rattle.map_model.specs.Parts.{rank}
 use Rattle.aug_monoid.specs.Totals.{totals_base, totals_combine, totals_unit}
 use Rattle.aug_monoid.specs.declared.totals.Totals.{Totals}
-use Rattle.script.specs.Lines.{comma, line_of}
-use Rattle.script.specs.declared.serve.ServeQuery.{ServeQuery}
-use Rattle.script.specs.declared.serve.ServeQuery.TheVariants as query
+use Rattle.script.specs.Lines.{line_of, reply_of}
+use Rattle.serve_script.specs.declared.map_words.ServeQuery.{ServeQuery}
+use Rattle.serve_script.specs.declared.map_words.ServeQuery.TheVariants as query
 
 -- the saturating sum and the greatest of all values
 unfoldable pub totals_of : List (ℕ × ℕ) → Totals
@@ -18,10 +17,6 @@ totals_of m = fold_of (λ (key val : ℕ). totals_base val) totals_unit totals_c
 -- those of the values at keys from lo to hi
 unfoldable pub range_totals : List (ℕ × ℕ) → ℕ → ℕ → Totals
 range_totals m lo hi = range_fold nat_cmp (λ (key val : ℕ). totals_base val) totals_unit totals_combine m lo hi
-
--- a word, then a comma and a decimal number for each number
-abbrev pub reply_of : List ℕ → List ℕ → List ℕ
-reply_of word numbers = word ++ flat_map (λ n. comma ∷ decimal n) numbers
 
 -- a value that may be absent
 abbrev pub found_reply : Option ℕ → List ℕ

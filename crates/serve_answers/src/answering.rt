@@ -4,29 +4,20 @@ ghost use Rattle.std.specs.Ordering.{nat_cmp};
 ghost use Rattle.map_model.specs.Entries.{lookup};
 ghost use Rattle.map_model.specs.Parts.{rank};
 ghost use Rattle.serve_answers.specs.Answering as answering;
-ghost use Rattle.serve_answers.specs.Answering.{answer_of, last_of, range_totals, reply_of, totals_of};
+ghost use Rattle.serve_answers.specs.Answering.{answer_of, last_of, range_totals, totals_of};
+ghost use Rattle.script.specs.Lines.{reply_of};
 
 use crate::served::ServedMap;
 use aug_map::CodedMap;
 use aug_monoid::{NoMemory, Steps, SumMax, Totals};
-use script::{ServeQuery, line, push_part};
+use script::{line, reply};
+use serve_script::ServeQuery;
 use serve_text::Answers;
 use std::alloc::Global;
 use std::marker::Brand;
 use std::sync::ledger::{Blank, Ledger};
 
 type CodedTotals = CodedMap<SumMax<u64>>;
-
-/// Appends a word, and a comma and a number for each number.
-fn reply(out: &mut Vec<u8>, word: &str, numbers: &[u64]) -> Result<(), NoMemory>
-    ensures { OnOk result (out.new.items ≡ out.old.items ++ reply_of word.now numbers.now) }
-{
-    out.extend_from_slice(word.as_bytes())?;
-    for number in numbers {
-        push_part(out, *number)?;
-    }
-    Ok(())
-}
 
 fn get<C: Ledger>(
     alloc: Global,

@@ -1,2 +1,3 @@
+pub mod InLine
 pub mod Inputs
 pub mod Numbered

@@ -1,1 +1,2 @@
+pub mod MapOps
 pub mod Converting

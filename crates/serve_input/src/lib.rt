@@ -1,6 +1,7 @@
-//! From the commands of the tool serve to the records that rounds run.
+//! From the commands of a tool that serves callers to the records that rounds run.
 #![tactic(auto)]
 
 mod converting;
+mod map_ops;
 
-pub use converting::{callers, records};
+pub use converting::{Says, callers, records};

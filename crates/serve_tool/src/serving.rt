@@ -2,19 +2,20 @@
 ghost use Rattle.std.specs.Prelude.{[], IfOk};
 ghost use Rattle.batch_store.specs.Round.{IsNewStore};
 ghost use Rattle.op_runs.specs.Steps.{step};
-ghost use Rattle.script.specs.Serve.{IsServeInput};
+ghost use Rattle.serve_script.specs.Served.{IsServeInput};
 ghost use Rattle.serve_answers.specs.Answering.{answer_of};
 ghost use Rattle.serve_input.specs.Converting.{callers_of, records_of};
+ghost use Rattle.serve_input.specs.MapOps.{op_of};
 ghost use Rattle.serve_rounds.specs.Rounds.{HasServed};
 ghost use Rattle.serve_tool.specs.Output.{IsServeOutput};
 
 use aug_monoid::NoMemory;
 use batch_store::{Caller, Store};
 use fork_join::{Cut, Gate};
-use script::ServeCommand;
 use serve_answers::ServedMap;
 use serve_input::{callers, records};
 use serve_rounds::{Served, finish, run_rounds};
+use serve_script::ServeCommand;
 use std::alloc::Global;
 use std::marker::Sync;
 use std::sync::Wait;
@@ -39,7 +40,7 @@ pub fn run_serve<R: Threads + Wait + Sync, G: Gate>(
 ) -> Result<Served<ServedMap>, NoMemory>
     requires lawful { IsServeInput commands.now }
     requires new { IsNewStore [] (callers_of commands.now) store callers.items }
-    ensures { IfOk result (λ served. HasServed step answer_of (records_of commands.now) store served.store callers.items served.callers.items served.text.items) }
+    ensures { IfOk result (λ served. HasServed step answer_of (records_of op_of commands.now) store served.store callers.items served.callers.items served.text.items) }
 {
     let records = records(alloc, commands)?;
     run_rounds(rt, alloc, gate, cut, store, callers, &records)

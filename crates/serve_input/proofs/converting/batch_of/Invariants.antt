@@ -1,6 +1,5 @@
 use Rattle.std.proofs.Common.{◌≡◌, map, take}
-use Rattle.serve_input.specs.Converting.{op_of}
 use Rattle.serve_input.proofs.converting.batch_of.Given as goal
 
 abbrev pub invariant-loop-op : goal.invariant-loop-op
-invariant-loop-op l = l.list.items ≡ map op_of (take l.op-index l.ops)
+invariant-loop-op g l = l.list.items ≡ map g.O.Says.op_of (take l.op-index l.ops)

@@ -1,0 +1,51 @@
+//! What a served graph answers.
+ghost use Rattle.std.specs.Prelude.{◌≡◌, ◌++◌, OnOk};
+ghost use Rattle.graph_snap.specs.Walks.{reach};
+ghost use Rattle.graph_answers.specs.Answering as answering;
+ghost use Rattle.graph_answers.specs.Answering.{answer_of, last_of};
+
+use crate::served::GraphAnswers;
+use aug_monoid::NoMemory;
+use graph_snap::Graph;
+use graph_tool::reached_numbers;
+use gserve_script::EdgeQuery;
+use script::{line, reply};
+use serve_text::Answers;
+use std::alloc::Global;
+
+fn degree(alloc: Global, graph: &Graph, u: u64, out: &mut Vec<u8>) -> Result<(), NoMemory>
+    ensures { OnOk result (out.new.items ≡ out.old.items ++ answering.degree_reply graph.now u) }
+{
+    let degree = graph.degree(alloc, u)?;
+    reply(out, "degree", &[degree])
+}
+
+fn bfs(alloc: Global, graph: &Graph, u: u64, out: &mut Vec<u8>) -> Result<(), NoMemory>
+    ensures { OnOk result (out.new.items ≡ out.old.items ++ answering.reached_reply (reach graph.now u)) }
+{
+    let found = graph.bfs_alone(alloc, u)?;
+    let numbers = reached_numbers(alloc, &found)?;
+    reply(out, "bfs", &numbers)
+}
+
+impl Answers for GraphAnswers {
+    type Query = EdgeQuery;
+
+    ghost answer_of = { answer_of };
+
+    ghost last_of = { last_of };
+
+    fn answer(&self, alloc: Global, query: &EdgeQuery, out: &mut Vec<u8>) -> Result<(), NoMemory> {
+        let graph = self.graph();
+        match *query {
+            EdgeQuery::Degree { u } => degree(alloc, graph, u, out),
+            EdgeQuery::Bfs { u } => bfs(alloc, graph, u, out),
+            EdgeQuery::Size => reply(out, "graph", &[graph.vertices(), graph.edges()]),
+        }
+    }
+
+    fn write_last(&self, _alloc: Global, out: &mut Vec<u8>) -> Result<(), NoMemory> {
+        let graph = self.graph();
+        line(out, "final", &[graph.vertices(), graph.edges()])
+    }
+}

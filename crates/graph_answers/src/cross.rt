@@ -1,0 +1,10 @@
+//! The served graph crosses threads.
+use crate::served::GraphAnswers;
+use versions::SyncState;
+
+fn state_crosses<S: SyncState>(_state: &S) {}
+
+/// A served graph is sent to and shared among threads.
+pub fn answers_cross(served: &GraphAnswers) {
+    state_crosses(served);
+}

@@ -1,0 +1,2 @@
+pub mod Gserve
+pub mod EdgeOps
