@@ -1,0 +1,30 @@
+-- What the tool check replies.
+use Rattle.std.specs.Prelude.{◌≡◌, [], ◌∷◌, ℕ, List, codes}
+use Rattle.op_runs.specs.Steps.{step}
+use Rattle.run_check.specs.Verdicts.{IsVerdict}
+use Rattle.run_check.specs.declared.verdict.Verdict.{Verdict}
+use Rattle.run_check.specs.declared.verdict.Verdict.TheVariants.{Yes, No}
+use Rattle.script.specs.Lines.{line_of}
+use Rattle.serve_answers.specs.Answering.{answer_of, last_of}
+use Rattle.serve_input.specs.Converting.{records_of}
+use Rattle.serve_input.specs.MapOps.{op_of}
+use Rattle.serve_script.specs.declared.commands.ServedCommand.{ServedCommand}
+use Rattle.serve_script.specs.declared.map_words.ServeOp.{ServeOp}
+use Rattle.serve_script.specs.declared.map_words.ServeQuery.{ServeQuery}
+
+abbrev pub ServeCommands : Type 0
+ServeCommands = List (ServedCommand ServeOp ServeQuery)
+
+-- the verdict on a text as one of the commands, run on a map that has no entries at first
+abbrev pub IsVerdictOn : ServeCommands → List ℕ → Verdict → Type 0
+IsVerdictOn commands text verdict = IsVerdict step answer_of last_of [] (records_of op_of commands) text verdict
+
+abbrev pub reply_of : Verdict → List ℕ
+reply_of Yes = line_of (codes "yes") []
+reply_of (No point) = line_of (codes "no") (point ∷ [])
+
+-- the reply is the line of the verdict
+pub record IsCheckOutput (commands : ServeCommands) (text reply : List ℕ) : Type 0 where
+  pub verdict : Verdict
+  pub is_verdict : IsVerdictOn commands text verdict
+  pub is : reply ≡ reply_of verdict

@@ -1,0 +1,10 @@
+pub mod Deciding
+pub mod Exactly
+pub mod Forming
+pub mod Judging
+pub mod Keyed
+pub mod NeverFalling
+pub mod Placings
+pub mod ReadLists
+pub mod TurnLists
+pub mod Versions
