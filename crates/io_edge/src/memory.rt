@@ -2,7 +2,7 @@
 ghost use Rattle.std.specs.Prelude.{◌≡◌, ◌≤◌, ◌<◌, [], ◌++◌, ◌↔◌, ◌&&◌, ◌||◌, ◌-◌, ◌==◌, not, false, true, Some, IfOk, IsErr, IsTrue, length, min, take, drop, is_err};
 ghost use Rattle.std.specs.Io.{ReadsAtMost, WritesAtMost};
 ghost use Rattle.std.specs.Io.KnownBytes.{ReadConsumes, WriteAppends};
-ghost use Rattle.io_edge.specs.Edge.{HasCause, ended_after};
+ghost use Rattle.io_edge.specs.Edge.{ended_after, faults_after};
 ghost use Rattle.io_edge.specs.Memory.{Input, Output, counted, next_fails};
 
 use crate::{Failed, Sink, Source};
@@ -62,7 +62,7 @@ impl Source for MemSource {
         ensures bound { ReadsAtMost result buf.new }
         ensures bytes { ReadConsumes (Some self.old.left) (Some self.new.left) result buf.new }
         ensures end { self.new.ended ≡ ended_after self.old.ended (length buf.old) result }
-        ensures cause { HasCause self.old.faults self.new.faults result }
+        ensures cause { self.new.faults ≡ faults_after (is_err result) self.old.faults }
         ensures fails { is_err result ≡ next_fails self.old.fails self.old.calls }
         ensures count { IfOk result (λ n. n ≡ min (min (length self.old.left) (length buf.old)) self.old.piece) }
         ensures after { self.new ≡ record self.old { left = self.new.left; calls = counted self.old.calls; faults = self.new.faults; ended = self.new.ended } }
@@ -150,7 +150,7 @@ impl Sink for MemSink {
         ensures bound { WritesAtMost result piece.now }
         ensures bytes { WriteAppends (Some self.old.written) (Some self.new.written) result piece.now }
         ensures takes { IfOk result (λ n. 0 < length piece.now → 1 ≤ n) }
-        ensures cause { HasCause self.old.faults self.new.faults result }
+        ensures cause { self.new.faults ≡ faults_after (is_err result) self.old.faults }
         ensures after { self.new ≡ record self.old { written = self.new.written; calls = counted self.old.calls; faults = self.new.faults } }
         ensures count { IfOk result (λ n. n ≡ min (min (length piece.now) (self.old.room - length self.old.written)) self.old.piece) }
         ensures fails { is_err result ≡ (next_fails self.old.fails self.old.calls || ((self.old.room - length self.old.written == 0) && not (length piece.now == 0))) }

@@ -1,9 +1,9 @@
 //! The edge as a program sees it.
-ghost use Rattle.std.specs.Prelude.{◌≡◌, ◌<◌, ◌≤◌, List, ℕ, Bool, length, IfOk};
+ghost use Rattle.std.specs.Prelude.{◌≡◌, ◌<◌, ◌≤◌, List, ℕ, Bool, length, IfOk, is_err};
 ghost use Rattle.std.specs.Io.{ReadsAtMost, WritesAtMost};
 ghost use Rattle.std.specs.Io.KnownBytes.{ReadConsumes, WriteAppends};
 ghost use Rattle.std.specs.declared.option.Option.{Option};
-ghost use Rattle.io_edge.specs.Edge.{HasCause, ended_after};
+ghost use Rattle.io_edge.specs.Edge.{ended_after, faults_after};
 
 use thiserror::Error;
 
@@ -20,7 +20,7 @@ pub trait Source {
     /// Whether the last read that had room answered `Ok(0)`.
     ghost ended: { Self → Bool };
 
-    /// How many faults there were.
+    /// How many calls failed.
     ghost faults: { Self → ℕ };
 
     /// Gives the next bytes, and none at the end of input.
@@ -28,7 +28,7 @@ pub trait Source {
         ensures bound { ReadsAtMost result buf.new }
         ensures bytes { ReadConsumes (left self.old) (left self.new) result buf.new }
         ensures end { ended self.new ≡ ended_after (ended self.old) (length buf.old) result }
-        ensures cause { HasCause (faults self.old) (faults self.new) result };
+        ensures cause { faults self.new ≡ faults_after (is_err result) (faults self.old) };
 }
 
 /// Where bytes go to.
@@ -36,7 +36,7 @@ pub trait Sink {
     /// The bytes written, where the sink tells them.
     ghost written: { Self → Option (List ℕ) };
 
-    /// How many faults there were.
+    /// How many calls failed.
     ghost faults: { Self → ℕ };
 
     /// Takes the first bytes of a piece, one at least where there is one.
@@ -44,5 +44,5 @@ pub trait Sink {
         ensures bound { WritesAtMost result piece.now }
         ensures bytes { WriteAppends (written self.old) (written self.new) result piece.now }
         ensures takes { IfOk result (λ n. 0 < length piece.now → 1 ≤ n) }
-        ensures cause { HasCause (faults self.old) (faults self.new) result };
+        ensures cause { faults self.new ≡ faults_after (is_err result) (faults self.old) };
 }

@@ -6,8 +6,8 @@ use Rattle.pam_top.specs.Answer.{AsksPlainly}
 use Rattle.pam_top.specs.CommandLine.{matches_on, pam_command}
 use Rattle.pam_top.specs.Settings.{settings_of}
 use Rattle.pam_top.specs.declared.settings.Settings.{Settings}
-use Rattle.script.specs.declared.parsed.Tool.{Tool}
-use Rattle.script.specs.declared.parsed.Tool.TheVariants as tool
+use Rattle.tool_input.specs.declared.parsed.Tool.{Tool}
+use Rattle.tool_input.specs.declared.parsed.Tool.TheVariants as tool
 
 abbrev unlawful_words : List (List Text)
 unlawful_words =
@@ -85,6 +85,8 @@ lawful_words =
     (codes "index" ∷ []) ∷
     (codes "graph" ∷ []) ∷
     (codes "serve" ∷ []) ∷
+    (codes "gserve" ∷ []) ∷
+    (codes "check" ∷ []) ∷
     (codes "--seed" ∷ codes "0" ∷ codes "--size" ∷ codes "1" ∷ codes "sample" ∷ []) ∷
     []
 
@@ -106,6 +108,8 @@ lawful : map settings_of lawful_words ≡
     tool_with tool.Index 4 1024 1 100000 ∷
     tool_with tool.Graph 4 1024 1 100000 ∷
     tool_with tool.Serve 4 1024 1 100000 ∷
+    tool_with tool.Gserve 4 1024 1 100000 ∷
+    tool_with tool.Check 4 1024 1 100000 ∷
     tool_with tool.Sample 4 1024 0 1 ∷
     []
 unfolding matches_on pam_command clap_on_literals settings_of
@@ -114,4 +118,4 @@ lawful = refl
 -- the tool map does not wait
 pub map_is_plain : AsksPlainly (codes "map" ∷ [])
 unfolding matches_on pam_command clap_on_literals settings_of
-map_is_plain = λ is. cc
+map_is_plain = (λ is. cc, λ is. cc)

@@ -5,12 +5,12 @@ use Rattle.index_tool.specs.Effects.{index_after, index_reply}
 use Rattle.interval_tool.specs.Effects.{interval_after, interval_reply}
 use Rattle.points_tool.specs.Effects.{points_after, points_reply}
 use Rattle.script.specs.Replies.{replies}
-use Rattle.script.specs.declared.graph.GraphCommand.TheVariants as graph
-use Rattle.script.specs.declared.index.IndexCommand.TheVariants as index
-use Rattle.script.specs.declared.interval.IntervalCommand.TheVariants as interval
-use Rattle.script.specs.declared.points.PointsCommand.TheVariants as points
-use Rattle.script.specs.declared.points.Weighed.{Weighed}
-use Rattle.script.specs.declared.seq.SeqCommand.TheVariants as seq
+use Rattle.graph_tool.specs.declared.commands.GraphCommand.TheVariants as graph
+use Rattle.index_tool.specs.declared.commands.IndexCommand.TheVariants as index
+use Rattle.interval_tool.specs.declared.commands.IntervalCommand.TheVariants as interval
+use Rattle.points_tool.specs.declared.commands.PointsCommand.TheVariants as points
+use Rattle.points_tool.specs.declared.weighed.Weighed.{Weighed}
+use Rattle.seq_tool.specs.declared.commands.SeqCommand.TheVariants as seq
 use Rattle.seq_tool.specs.Effects.{seq_after, seq_reply}
 use Rattle.seq_tool.specs.Registers.{empty_registers}
 use Rattle.pam_top.proofs.Rows.{lines, pair}

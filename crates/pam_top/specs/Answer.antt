@@ -1,12 +1,12 @@
 -- What the program answers to its words and its input.
-use Rattle.std.specs.Prelude.{◌≡◌, ◌⊎◌, ◌<◌, ◌≤◌, [], ℕ, Bool, true, false, List, None, IfSome, IsSomeAnd, IsOkAnd, IsErrAnd, Ok, Result, MatchBool, length, if◌then◌else◌}
-use Rattle.script.specs.Commands.{commands_of}
+use Rattle.std.specs.Prelude.{◌≡◌, ◌⊎◌, ◌<◌, ◌≤◌, ◌+◌, [], ℕ, Bool, true, false, List, None, IfSome, IsSomeAnd, IsOkAnd, IsErrAnd, Ok, Result, MatchBool, length, if◌then◌else◌}
+use Rattle.tool_input.specs.Commands.{commands_of}
 use Rattle.script.specs.Lines.{IsPrefix, error_line_of}
 use Rattle.script.specs.declared.fault.BadRecord.{BadRecord}
-use Rattle.script.specs.declared.parsed.Parsed.{Parsed}
-use Rattle.script.specs.declared.parsed.Parsed.TheVariants as parsed
-use Rattle.script.specs.declared.parsed.Tool.{Tool}
-use Rattle.script.specs.declared.parsed.Tool.TheVariants as tool
+use Rattle.tool_input.specs.declared.parsed.Parsed.{Parsed}
+use Rattle.tool_input.specs.declared.parsed.Parsed.TheVariants as parsed
+use Rattle.tool_input.specs.declared.parsed.Tool.{Tool}
+use Rattle.tool_input.specs.declared.parsed.Tool.TheVariants as tool
 use Rattle.pam_top.specs.Output.{IsOutput}
 use Rattle.pam_top.specs.Sample.{sample_commands}
 use Rattle.pam_top.specs.Settings.{settings_of}
@@ -18,6 +18,10 @@ use Rattle.pam_top.specs.declared.status.Status.TheVariants as status
 abbrev pub input_limit : ℕ
 input_limit = 67108864
 
+-- the most bytes that are asked for at a time
+abbrev pub read_limit : ℕ
+read_limit = 65536
+
 -- whether a tool reads its input
 abbrev pub reads_input : Tool → Bool
 reads_input tool.Map = true
@@ -27,14 +31,17 @@ reads_input tool.Points = true
 reads_input tool.Index = true
 reads_input tool.Graph = true
 reads_input tool.Serve = true
+reads_input tool.Gserve = true
+reads_input tool.Check = true
 reads_input tool.Sample = false
 
 -- a whole input of a tool that is not too large: nothing, for a tool that reads none
 abbrev pub IsInput : Tool → List ℕ → Type 0
 IsInput tool bytes = MatchBool (reads_input tool) (length bytes ≤ input_limit) (bytes ≡ [])
 
+-- what was taken of an input that is too large: no more than one read goes past the limit
 abbrev pub IsTooLarge : Tool → List ℕ → Type 0
-IsTooLarge tool bytes = (reads_input tool ≡ true) × (input_limit < length bytes)
+IsTooLarge tool bytes = (reads_input tool ≡ true) × (input_limit < length bytes) × (length bytes ≤ input_limit + read_limit)
 
 -- the commands that the settings and the input ask for
 abbrev pub asked_by : Settings → List ℕ → Result Parsed BadRecord
@@ -69,9 +76,9 @@ AsksToRead words = IsSomeAnd (settings_of words) (λ settings. reads_input setti
 abbrev pub AsksNotToRead : List (List ℕ) → Type 0
 AsksNotToRead words = IsSomeAnd (settings_of words) (λ settings. reads_input settings.tool ≡ false)
 
--- the words do not ask for the tool that waits
+-- the words do not ask for a tool that waits
 abbrev pub AsksPlainly : List (List ℕ) → Type 0
-AsksPlainly words = IfSome (settings_of words) (λ settings. settings.tool ≡ tool.Serve → ⊥)
+AsksPlainly words = IfSome (settings_of words) (λ settings. (settings.tool ≡ tool.Serve → ⊥) × (settings.tool ≡ tool.Gserve → ⊥))
 
 -- what was taken from the source and appended to the sink, at each status
 abbrev pub Outcome : List (List ℕ) → List ℕ → Status → List ℕ → Type 0
@@ -81,7 +88,7 @@ Outcome words bytes status.BadRecord text = Answer words bytes status.BadRecord 
 Outcome words bytes status.TooLarge text = Answer words bytes status.TooLarge text
 Outcome words bytes status.ReadFault text = AsksToRead words × (length bytes ≤ input_limit) × (text ≡ [])
 Outcome words bytes status.WriteFault text = (made : List ℕ) × IsPrefix text made × (Answer words bytes status.Ok made ⊎ Answer words bytes status.BadRecord made)
-Outcome words bytes status.NoMemory text = text ≡ []
+Outcome words bytes status.NoMemory text = (length bytes ≤ input_limit) × (text ≡ [])
 
 -- the statuses at which the whole input was read
 abbrev pub was_read : Status → Bool
@@ -102,6 +109,25 @@ was_silent status.TooLarge = true
 was_silent status.ReadFault = true
 was_silent status.WriteFault = false
 was_silent status.NoMemory = true
+
+-- the status at which a read failed, and the one at which a write did
+abbrev pub failed_to_read : Status → Bool
+failed_to_read status.Ok = false
+failed_to_read status.Usage = false
+failed_to_read status.BadRecord = false
+failed_to_read status.TooLarge = false
+failed_to_read status.ReadFault = true
+failed_to_read status.WriteFault = false
+failed_to_read status.NoMemory = false
+
+abbrev pub failed_to_write : Status → Bool
+failed_to_write status.Ok = false
+failed_to_write status.Usage = false
+failed_to_write status.BadRecord = false
+failed_to_write status.TooLarge = false
+failed_to_write status.ReadFault = false
+failed_to_write status.WriteFault = true
+failed_to_write status.NoMemory = false
 
 -- the number of a status
 abbrev pub status_code : Status → ℕ

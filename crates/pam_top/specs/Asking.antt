@@ -1,10 +1,10 @@
 -- What words and input ask for.
 use Rattle.std.specs.Prelude.{◌≡◌, [], ℕ, Bool, true, false, List, IsSomeAnd, Ok, Err}
-use Rattle.pam_top.specs.Answer.{IsInput, Outcome, asked_by, was_read, was_silent}
+use Rattle.pam_top.specs.Answer.{IsInput, Outcome, asked_by, failed_to_read, was_read, was_silent}
 use Rattle.pam_top.specs.Settings.{settings_of}
 use Rattle.pam_top.specs.declared.asking.Asked.{Asked}
 use Rattle.pam_top.specs.declared.asking.Asked.TheVariants as asked
-use Rattle.script.specs.Lawful.{IsLawful}
+use Rattle.tool_input.specs.Lawful.{IsLawful}
 
 -- the words and the input, which was read whole, ask for lawful commands, or the input has a first bad record; or the run has ended
 abbrev pub IsAsked : List (List ℕ) → List ℕ → Asked → Type 0
@@ -17,3 +17,9 @@ abbrev pub has_input : Asked → Bool
 has_input (asked.Commands cut list) = true
 has_input (asked.Bad bad) = true
 has_input (asked.Ended status) = false
+
+-- whether the run has ended since a read failed
+abbrev pub has_failed : Asked → Bool
+has_failed (asked.Commands cut list) = false
+has_failed (asked.Bad bad) = false
+has_failed (asked.Ended status) = failed_to_read status

@@ -5,8 +5,8 @@ use Rattle.clap.specs.Words.{Row, Text, first_of}
 use Rattle.script.specs.Numbers.{number_of}
 use Rattle.pam_top.specs.CommandLine.{matches_on}
 use Rattle.pam_top.specs.declared.settings.Settings.{Settings}
-use Rattle.script.specs.declared.parsed.Tool.{Tool}
-use Rattle.script.specs.declared.parsed.Tool.TheVariants as tool
+use Rattle.tool_input.specs.declared.parsed.Tool.{Tool}
+use Rattle.tool_input.specs.declared.parsed.Tool.TheVariants as tool
 
 infixl 10 ◌>>=◌
 abbrev pub ◌>>=◌ : {A B : Type 0} → Option A → (A → Option B) → Option B
@@ -23,6 +23,8 @@ tool_named name =
     else if bytes_eq name (codes "index") then Some tool.Index
     else if bytes_eq name (codes "graph") then Some tool.Graph
     else if bytes_eq name (codes "serve") then Some tool.Serve
+    else if bytes_eq name (codes "gserve") then Some tool.Gserve
+    else if bytes_eq name (codes "check") then Some tool.Check
     else if bytes_eq name (codes "sample") then Some tool.Sample
     else None
 

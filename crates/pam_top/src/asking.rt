@@ -2,11 +2,11 @@
 ghost use Rattle.std.specs.Prelude.{◌≡◌, true, List, ℕ, IfOk, map};
 ghost use Rattle.std.specs.String.{string_bytes};
 ghost use Rattle.std.specs.Io.KnownBytes.{Consumes, IsAtEnd};
-ghost use Rattle.io_edge.specs.Edge.{Rose};
-ghost use Rattle.script.specs.Lawful.{IsLawful};
+ghost use Rattle.io_edge.specs.Edge.{faults_after};
+ghost use Rattle.tool_input.specs.Lawful.{IsLawful};
 ghost use Rattle.script.specs.Results.{Gives};
 ghost use Rattle.pam_top.specs.Answer.{AsksNotToRead, AsksToRead, asked_by};
-ghost use Rattle.pam_top.specs.Asking.{IsAsked, has_input};
+ghost use Rattle.pam_top.specs.Asking.{IsAsked, has_failed, has_input};
 ghost use Rattle.pam_top.specs.Settings.{IsInRange};
 ghost use Rattle.pam_top.specs.declared.asking.Asked.TheVariants as asked;
 ghost use Rattle.pam_top.specs.declared.status.Status.TheVariants as status;
@@ -18,8 +18,9 @@ use crate::settings::{Settings, read_words};
 use crate::words_fault::WordsFault;
 use fork_join::Cut;
 use io_edge::Source;
-use script::{BadRecord, Parsed, ScriptFault, commands};
+use script::{BadRecord, ScriptFault};
 use std::alloc::Global;
+use tool_input::{Parsed, commands};
 
 /// What words and input ask for.
 #[derive(Drop)]
@@ -51,7 +52,7 @@ pub(crate) fn asked_of<S: Source>(alloc: Global, words: &[String], source: &mut 
     ensures whole { has_input result ≡ true → AsksToRead (map string_bytes words.now) → (S.ended source.new ≡ true) × IsAtEnd (S.left source.new) }
     ensures unread { result ≡ asked.Ended status.Usage → source.new ≡ source.old }
     ensures unasked { AsksNotToRead (map string_bytes words.now) → source.new ≡ source.old }
-    ensures read_fault { result ≡ asked.Ended status.ReadFault → Rose (S.faults source.old) (S.faults source.new) }
+    ensures read_fault { S.faults source.new ≡ faults_after (has_failed result) (S.faults source.old) }
 {
     let settings = match read_words(alloc, words) {
         Ok(settings) => settings,

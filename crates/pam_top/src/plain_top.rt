@@ -1,9 +1,9 @@
-//! The whole program without the tool that waits.
+//! The whole program without the tools that wait.
 ghost use Rattle.std.specs.Prelude.{◌≡◌, true, List, ℕ, map};
 ghost use Rattle.std.specs.String.{string_bytes};
 ghost use Rattle.std.specs.Io.KnownBytes.{Appends, Consumes, IsAtEnd};
-ghost use Rattle.io_edge.specs.Edge.{Rose};
-ghost use Rattle.pam_top.specs.Answer.{AsksNotToRead, AsksPlainly, AsksToRead, Outcome, was_read, was_silent};
+ghost use Rattle.io_edge.specs.Edge.{faults_after};
+ghost use Rattle.pam_top.specs.Answer.{AsksNotToRead, AsksPlainly, AsksToRead, Outcome, failed_to_read, failed_to_write, was_read, was_silent};
 
 use crate::Status;
 use crate::asking::{Asked, asked_of};
@@ -15,7 +15,7 @@ use std::alloc::Global;
 use std::marker::Sync;
 use std::thread::Threads;
 
-/// Runs `pam` with words that do not ask for the tool serve: the same call without the bound `Wait`, so that it returns.
+/// Runs `pam` with words that ask for neither serve nor gserve: the same call without the bound `Wait`, so that it returns.
 pub fn pam_plain<R: Threads + Sync, S: Source, K: Sink, G: Gate>(
     rt: &R,
     alloc: Global,
@@ -31,8 +31,8 @@ pub fn pam_plain<R: Threads + Sync, S: Source, K: Sink, G: Gate>(
     ensures unread { result ≡ Status.Usage → source.new ≡ source.old }
     ensures unasked { AsksNotToRead (map string_bytes words.now) → source.new ≡ source.old }
     ensures silent { was_silent result ≡ true → sink.new ≡ sink.old }
-    ensures read_fault { result ≡ Status.ReadFault → Rose (S.faults source.old) (S.faults source.new) }
-    ensures write_fault { result ≡ Status.WriteFault → Rose (K.faults sink.old) (K.faults sink.new) }
+    ensures read_fault { S.faults source.new ≡ faults_after (failed_to_read result) (S.faults source.old) }
+    ensures write_fault { K.faults sink.new ≡ faults_after (failed_to_write result) (K.faults sink.old) }
 {
     match asked_of(alloc, words, source) {
         Asked::Commands { cut, list } => {

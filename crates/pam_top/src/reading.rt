@@ -1,14 +1,13 @@
 //! Reads the whole input.
-ghost use Rattle.std.specs.Prelude.{◌≡◌, ◌≤◌, false, true, length, IfOk, OnErr, OnOk, IfErr};
+ghost use Rattle.std.specs.Prelude.{◌≡◌, false, true, length, IfOk, OnErr, OnOk};
 ghost use Rattle.std.specs.Io.KnownBytes.{IsAtEnd};
-ghost use Rattle.io_edge.specs.Edge.{Rose};
+ghost use Rattle.io_edge.specs.Edge.{faults_after};
 ghost use Rattle.pam_top.specs.Answer.{IsInput, IsTooLarge, reads_input};
-ghost use Rattle.pam_top.specs.InputRead.{ReadsInput};
-ghost use Rattle.pam_top.specs.declared.reading.Stop.TheVariants as stop;
+ghost use Rattle.pam_top.specs.InputRead.{ReadsInput, has_failed};
 
 use io_edge::{Failed, Source};
-use script::Tool;
 use std::alloc::{AllocError, Global};
+use tool_input::Tool;
 
 /// The most bytes of an input.
 const INPUT_LIMIT: usize = 67108864;
@@ -34,8 +33,7 @@ fn empty_chunk(alloc: Global) -> Result<Vec<u8>, AllocError>
 fn read_input<S: Source>(alloc: Global, source: &mut S) -> Result<Vec<u8>, Stop>
     ensures bytes { ReadsInput (S.left source.old) (S.left source.new) (λ v. v.items) result }
     ensures end { OnOk result ((S.ended source.new ≡ true) × IsAtEnd (S.left source.new)) }
-    ensures later { S.faults source.old ≤ S.faults source.new }
-    ensures cause { IfErr result (λ e. e ≡ stop.Fault → Rose (S.faults source.old) (S.faults source.new)) }
+    ensures cause { S.faults source.new ≡ faults_after (has_failed result) (S.faults source.old) }
 {
     let Ok(mut chunk) = empty_chunk(alloc) else {
         return Err(Stop::NoMemory);
@@ -45,11 +43,11 @@ fn read_input<S: Source>(alloc: Global, source: &mut S) -> Result<Vec<u8>, Stop>
         match source.read(&mut chunk) {
             Ok(0) => return Ok(input),
             Ok(count) => {
+                if INPUT_LIMIT - input.len() < count {
+                    return Err(Stop::TooLarge);
+                }
                 if input.extend_from_slice(&chunk[..count]).is_err() {
                     return Err(Stop::NoMemory);
-                }
-                if input.len() > INPUT_LIMIT {
-                    return Err(Stop::TooLarge);
                 }
             }
             Err(Failed) => return Err(Stop::Fault),
@@ -76,7 +74,7 @@ pub(crate) fn input_of<S: Source>(
     ensures stopped { OnErr result (reads_input tool ≡ true) }
     ensures unread { reads_input tool ≡ false → source.new ≡ source.old }
     ensures end { OnOk result (reads_input tool ≡ true → (S.ended source.new ≡ true) × IsAtEnd (S.left source.new)) }
-    ensures cause { IfErr result (λ e. e ≡ stop.Fault → Rose (S.faults source.old) (S.faults source.new)) }
+    ensures cause { S.faults source.new ≡ faults_after (has_failed result) (S.faults source.old) }
 {
     if reads_input(tool) {
         read_input(alloc, source)

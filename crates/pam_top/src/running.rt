@@ -1,22 +1,24 @@
 //! Runs the commands of an input.
 ghost use Rattle.std.specs.Prelude.{IfOk};
-ghost use Rattle.script.specs.Lawful.{IsLawful};
+ghost use Rattle.tool_input.specs.Lawful.{IsLawful};
 ghost use Rattle.pam_top.specs.Output.{IsOutput, IsPlain};
 
 use aug_monoid::NoMemory;
+use check_tool::run_check;
 use fork_join::{Cut, Gate};
 use graph_tool::run_graph;
+use gserve_tool::gserve_text;
 use index_tool::run_index;
 use interval_tool::run_intervals;
 use map_tool::run_map;
 use points_tool::run_points;
-use script::Parsed;
 use seq_tool::run_seq;
 use serve_tool::serve_text;
 use std::alloc::Global;
 use std::marker::Sync;
 use std::sync::Wait;
 use std::thread::Threads;
+use tool_input::Parsed;
 
 /// The replies to the commands of a tool that does not wait, which depend neither on the runtime nor on the gate nor on the cut.
 pub fn run_plain<R: Threads + Sync, G: Gate>(
@@ -37,11 +39,12 @@ pub fn run_plain<R: Threads + Sync, G: Gate>(
         Parsed::Points(list) => run_points(rt, alloc, gate, cut, list.items()),
         Parsed::Index(list) => run_index(rt, alloc, gate, cut, list.items()),
         Parsed::Graph(list) => run_graph(rt, alloc, gate, cut, list.items()),
-        Parsed::Serve(_) => unreachable!(),
+        Parsed::Check { list, text } => run_check(rt, alloc, gate, cut, list.items(), text.items()),
+        Parsed::Serve(_) | Parsed::Gserve(_) => unreachable!(),
     }
 }
 
-/// The replies to the commands of any tool. It may wait in the tool serve alone.
+/// The replies to the commands of any tool. It may wait in the tools serve and gserve alone.
 pub(crate) fn run<R: Threads + Wait + Sync, G: Gate>(
     rt: &R,
     alloc: Global,
@@ -54,6 +57,7 @@ pub(crate) fn run<R: Threads + Wait + Sync, G: Gate>(
 {
     match commands {
         Parsed::Serve(list) => serve_text(rt, alloc, gate, cut, list.items()),
+        Parsed::Gserve(list) => gserve_text(rt, alloc, gate, cut, list.items()),
         _ => run_plain(rt, alloc, gate, cut, commands),
     }
 }

@@ -1,12 +1,14 @@
 //! The commands of the tool sample.
 ghost use Rattle.std.specs.Prelude.{◌≡◌, ◌+◌, ◌*◌, ◌≤◌, IfOk, OnOk};
 ghost use Rattle.pam_top.specs.Sample.{commands_over, next_number, number_at, pair_at, sample_commands, sample_pairs};
-ghost use Rattle.script.specs.Lawful.{IsLawful};
-ghost use Rattle.script.specs.declared.parsed.Parsed.TheVariants as parsed;
+ghost use Rattle.tool_input.specs.Lawful.{IsLawful};
+ghost use Rattle.tool_input.specs.declared.parsed.Parsed.TheVariants as parsed;
 
 use aug_monoid::{NoMemory, Pair64};
-use script::{How, Items, MapCommand, Parsed};
+use map_tool::{How, MapCommand};
+use script::Items;
 use std::alloc::Global;
+use tool_input::Parsed;
 
 /// A linear congruential generator, with its last number.
 #[derive(Clone, Copy, Debug)]

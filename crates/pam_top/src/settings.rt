@@ -8,8 +8,9 @@ ghost use Rattle.pam_top.specs.declared.words_fault.WordsFault.TheVariants as fa
 use crate::command_line::{matches, with_name};
 use crate::words_fault::WordsFault;
 use clap::ArgMatches;
-use script::{Tool, number};
+use script::number;
 use std::alloc::Global;
+use tool_input::Tool;
 
 /// What the words ask for.
 #[derive(Clone, Copy, Debug, PartialEq, Eq)]
@@ -33,6 +34,8 @@ fn tool_of(name: &str) -> Option<Tool>
         "index" => Some(Tool::Index),
         "graph" => Some(Tool::Graph),
         "serve" => Some(Tool::Serve),
+        "gserve" => Some(Tool::Gserve),
+        "check" => Some(Tool::Check),
         "sample" => Some(Tool::Sample),
         _ => None,
     }

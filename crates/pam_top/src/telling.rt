@@ -1,11 +1,10 @@
 //! The end of a run: its text is written, and its status is known.
 ghost use Rattle.std.specs.Prelude.{◌≡◌, ◌++◌, [], true, List, ℕ, IfOk, OnErr};
 ghost use Rattle.std.specs.Io.KnownBytes.{Appends};
-ghost use Rattle.io_edge.specs.Edge.{Rose};
+ghost use Rattle.io_edge.specs.Edge.{faults_after};
 ghost use Rattle.script.specs.Lines.{error_line_of};
-ghost use Rattle.pam_top.specs.Answer.{was_silent};
+ghost use Rattle.pam_top.specs.Answer.{failed_to_write, was_silent};
 ghost use Rattle.pam_top.specs.Telling.{HasText, Tells};
-ghost use Rattle.pam_top.specs.declared.status.Status.TheVariants as status;
 
 use crate::Status;
 use crate::writing::write_text;
@@ -28,7 +27,7 @@ pub(crate) fn tell<K: Sink>(sink: &mut K, told: Status, text: Result<Vec<u8>, No
     requires { HasText told }
     ensures text { (front : List ℕ) × Appends (K.written sink.old) (K.written sink.new) front × Tells (λ v. v.items) told text result front }
     ensures silent { was_silent result ≡ true → sink.new ≡ sink.old }
-    ensures write_fault { result ≡ status.WriteFault → Rose (K.faults sink.old) (K.faults sink.new) }
+    ensures write_fault { K.faults sink.new ≡ faults_after (failed_to_write result) (K.faults sink.old) }
 {
     match text {
         Ok(text) => match write_text(sink, &text) {

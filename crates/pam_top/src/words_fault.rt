@@ -1,5 +1,5 @@
 //! Why words give no settings.
-ghost use Rattle.std.specs.Prelude.{◌≡◌, ◌≢◌};
+ghost use Rattle.std.specs.Prelude.{◌≡◌, ◌≢◌, ◌↔◌};
 ghost use Rattle.clap.specs.Words.{kind_of};
 ghost use Rattle.clap.specs.declared.error.kind.ErrorKind.TheVariants.{OutOfMemory};
 ghost use Rattle.pam_top.specs.declared.words_fault.WordsFault.TheVariants as fault;
@@ -33,7 +33,7 @@ impl<T: Drop> From<AllocFailed<T>> for WordsFault {
 }
 
 impl From<clap::Error> for WordsFault {
-    ghost from_gives = { λ error e. e ≡ fault.Usage → kind_of error ≢ OutOfMemory };
+    ghost from_gives = { λ error e. (e ≡ fault.Usage) ↔ (kind_of error ≢ OutOfMemory) };
 
     fn from(error: clap::Error) -> Self {
         match error.kind() {

@@ -2,7 +2,11 @@
 #![tactic(auto)]
 
 #[cfg(test)]
+mod checks;
+#[cfg(test)]
 mod edges;
+#[cfg(test)]
+mod faults;
 #[cfg(test)]
 mod many_points;
 #[cfg(test)]

@@ -2,8 +2,8 @@
 
 use aug_monoid::NoMemory;
 use fork_join::{Cut, FreeGate};
-use points_tool::run_points;
-use script::{Items, PointsCommand, Weighed};
+use points_tool::{PointsCommand, Weighed, run_points};
+use script::Items;
 use std::alloc::Global;
 use std::marker::Sync;
 use std::test::Fail;

@@ -14,7 +14,7 @@ use std::test::Fail;
 use std::thread::Threads;
 
 /// A tool, its input, and the text that it must give.
-type Row = (&'static str, &'static [u8], &'static [u8]);
+pub(crate) type Row = (&'static str, &'static [u8], &'static [u8]);
 
 const EXAMPLE: &[u8] = b"put,0,5,10\nget,0,5\nsum,0,0,9\n";
 
@@ -22,10 +22,10 @@ const REPLIES: &[u8] = b"ok,1\nsome,10\naug,10,10\n";
 
 /// How a source and a sink give and take: the bytes of a piece, and the calls that fail.
 #[derive(Clone, Copy)]
-struct Edge<'a> {
-    piece: usize,
-    reads: &'a [u64],
-    writes: &'a [u64],
+pub(crate) struct Edge<'a> {
+    pub(crate) piece: usize,
+    pub(crate) reads: &'a [u64],
+    pub(crate) writes: &'a [u64],
 }
 
 /// Pieces of so many bytes, and no call that fails.
@@ -48,7 +48,7 @@ fn words_of(alloc: Global, words: &[&str]) -> Result<Vec<String>, Fail> {
 }
 
 /// Runs the program, and answers its status and what it wrote.
-fn run(
+pub(crate) fn run(
     rt: &(impl Threads + Wait + Sync),
     alloc: Global,
     words: &[&str],
@@ -90,7 +90,7 @@ fn check(
 }
 
 /// Runs each row in pieces of 1 byte on one worker, and in pieces of 7 bytes on many.
-fn check_all(
+pub(crate) fn check_all(
     rt: &(impl Abort + Threads + Wait + Sync),
     alloc: Global,
     rows: &[Row],
@@ -254,6 +254,12 @@ const TOOLS: &[Row] = &[
         "graph",
         b"size\ncut,4,4\nadd,5,5,5,6,5,5,6,5\nnow,5\ncut,6,5,6,6,9,1\nsize\ndegree,6\nnow,6\n",
         b"graph,0,0\nok,0\nok,3\nbfs,2,5,0,6,1\nok,2\ngraph,1,2\ndegree,0\nbfs,1,6,0\n",
+    ),
+    // components, whichever way their edges go
+    (
+        "graph",
+        b"comp\nadd,1,2,3,2,5,5,7,6\ncomp\n",
+        b"comp,0\nok,4\ncomp,6,1,1,2,1,3,1,5,5,6,6,7,6\n",
     ),
 ];
 

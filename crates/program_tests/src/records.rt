@@ -1,7 +1,8 @@
 //! Small inputs that are read as commands, and lines that are written.
-use script::{BadRecord, Code, Parsed, ScriptFault, Tool, commands, error_line, line, number};
+use script::{BadRecord, Code, ScriptFault, error_line, line, number};
 use std::alloc::Global;
 use std::test::Fail;
+use tool_input::{Parsed, Tool, commands};
 
 /// How many commands a tool's input has, or its first bad record.
 fn read(alloc: Global, tool: Tool, input: &[u8]) -> Result<usize, ScriptFault> {
@@ -13,6 +14,8 @@ fn read(alloc: Global, tool: Tool, input: &[u8]) -> Result<usize, ScriptFault> {
         Parsed::Index(list) => Ok(list.items().len()),
         Parsed::Graph(list) => Ok(list.items().len()),
         Parsed::Serve(list) => Ok(list.items().len()),
+        Parsed::Gserve(list) => Ok(list.items().len()),
+        Parsed::Check { list, text: _ } => Ok(list.items().len()),
     }
 }
 
@@ -152,6 +155,9 @@ const FAULTS: &[(Tool, &[u8], u64, Code)] = &[
     (Tool::Graph, b"cut,1,2,3\n", 1, Code::Fields),
     (Tool::Graph, b"degree,x\n", 1, Code::Number),
     (Tool::Graph, b"bfs,1\n", 1, Code::Fields),
+    (Tool::Graph, b"comp,1\n", 1, Code::Fields),
+    (Tool::Gserve, b"serve,1\nb,0,put,1,2\n", 2, Code::Op),
+    (Tool::Gserve, b"serve,1\nr,0,bfs,x\n", 2, Code::Number),
 ];
 
 #[test]

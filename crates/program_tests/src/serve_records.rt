@@ -1,13 +1,16 @@
 //! Inputs of the tool serve that are read as commands.
-use script::{
-    BadRecord, Code, ScriptFault, ServeCommand, ServeOp, ServeQuery, error_line, serve_commands,
-};
+use script::{BadRecord, Code, ScriptFault, error_line};
+use serve_script::{ServeCommand, ServeOp, ServeQuery, ServedCommand, served_commands};
 use std::alloc::{AllocError, Global};
 use std::test::Fail;
 
 /// How many commands an input has, or its first bad record.
 fn read(alloc: Global, input: &[u8]) -> Result<usize, ScriptFault> {
-    Ok(serve_commands(alloc, input)?.items().len())
+    Ok(
+        served_commands::<ServeOp, ServeQuery>(alloc, input)?
+            .items()
+            .len(),
+    )
 }
 
 /// Inputs that have each verb, operation and query, and how many commands they have.
@@ -118,19 +121,19 @@ const OPERATIONS: &[ServeOp] = &[
 fn are_spelled(commands: &[ServeCommand]) -> bool {
     match commands {
         [
-            ServeCommand::Serve { place: 1, n: 2 },
-            ServeCommand::Batch {
+            ServedCommand::Serve { place: 1, n: 2 },
+            ServedCommand::Batch {
                 place: 2,
                 c: 1,
                 ops,
             },
-            ServeCommand::Read {
+            ServedCommand::Read {
                 place: 3,
                 c: 0,
                 query: ServeQuery::Sum { lo: 6, hi: 7 },
             },
-            ServeCommand::Round { place: 4 },
-            ServeCommand::Read {
+            ServedCommand::Round { place: 4 },
+            ServedCommand::Read {
                 place: 5,
                 c: 1,
                 query: ServeQuery::Size,
@@ -142,7 +145,7 @@ fn are_spelled(commands: &[ServeCommand]) -> bool {
 
 #[test]
 fn commands_of_serve_are_as_spelled(rt: HostRuntime) -> Result<(), Fail> {
-    let commands = serve_commands(rt.alloc(), SPELLED)?;
+    let commands = served_commands::<ServeOp, ServeQuery>(rt.alloc(), SPELLED)?;
     assert!(rt; are_spelled(commands.items()));
     Ok(())
 }

@@ -1,8 +1,10 @@
-//! Tests of the tool serve through the whole program: worked inputs, edges that fail, many records, and threads that overlap.
+//! Tests of the tools serve and gserve through the whole program: worked inputs, edges that fail, many records, and threads that overlap.
 #![tactic(auto)]
 
 #[cfg(test)]
 mod edges;
+#[cfg(test)]
+mod graphs;
 #[cfg(test)]
 mod many;
 #[cfg(test)]

@@ -39,6 +39,31 @@ fn words_of(alloc: Global, words: &[&str]) -> Result<Vec<String>, Fail> {
     Ok(list)
 }
 
+/// What a tool that serves callers writes to an input with so many workers, and its status.
+pub(crate) fn run<R: Threads + Wait + Sync, G: Gate>(
+    rt: &R,
+    alloc: Global,
+    tool: &str,
+    workers: &str,
+    input: &[u8],
+    edge: &Edge,
+    gate: &G,
+) -> Result<(Status, Vec<u8>), Fail>
+    requires { 1 ≤ edge.now.piece }
+{
+    let words = words_of(alloc, &["--workers", workers, "--grain", "1", tool])?;
+    let bytes = Vec::from_slice(alloc, input)?;
+    let mut source = MemSource::new(bytes, edge.piece, Vec::from_slice(alloc, edge.reads)?);
+    let mut sink = MemSink::new(
+        alloc,
+        edge.room,
+        edge.piece,
+        Vec::from_slice(alloc, edge.writes)?,
+    )?;
+    let status = pam(rt, alloc, &words, &mut source, &mut sink, gate);
+    Ok((status, Vec::from_slice(alloc, sink.written())?))
+}
+
 /// What the tool serve writes to an input with so many workers, and its status.
 pub(crate) fn serve<R: Threads + Wait + Sync, G: Gate>(
     rt: &R,
@@ -50,15 +75,5 @@ pub(crate) fn serve<R: Threads + Wait + Sync, G: Gate>(
 ) -> Result<(Status, Vec<u8>), Fail>
     requires { 1 ≤ edge.now.piece }
 {
-    let words = words_of(alloc, &["--workers", workers, "--grain", "1", "serve"])?;
-    let bytes = Vec::from_slice(alloc, input)?;
-    let mut source = MemSource::new(bytes, edge.piece, Vec::from_slice(alloc, edge.reads)?);
-    let mut sink = MemSink::new(
-        alloc,
-        edge.room,
-        edge.piece,
-        Vec::from_slice(alloc, edge.writes)?,
-    )?;
-    let status = pam(rt, alloc, &words, &mut source, &mut sink, gate);
-    Ok((status, Vec::from_slice(alloc, sink.written())?))
+    run(rt, alloc, "serve", workers, input, edge, gate)
 }

@@ -1,7 +1,7 @@
-//! Inputs of the tool serve, each with the texts that it may have.
+//! Inputs of the tools serve and gserve, each with the texts that it may have.
 ghost use Rattle.std.specs.Prelude.{◌≤◌};
 
-use crate::runs::{serve, sound_edge};
+use crate::runs::{run, sound_edge};
 use fork_join::FreeGate;
 use pam_top::Status;
 use std::alloc::Global;
@@ -14,7 +14,7 @@ use std::thread::Threads;
 /// An input, and its lawful texts.
 type Row = (&'static [u8], &'static [&'static [u8]]);
 
-/// Inputs without a bad record.
+/// Inputs of serve without a bad record.
 const LAWFUL: &[Row] = &[
     // nothing, callers that do nothing, and a round without records
     (b"", &[b"final,0,0,0\n"]),
@@ -74,7 +74,7 @@ const LAWFUL: &[Row] = &[
     ),
 ];
 
-/// Inputs with a bad record, and the line that names the first one.
+/// Inputs of serve with a bad record, and the line that names the first one.
 const FAULTS: &[Row] = &[
     (b"round\n", &[b"error,1,verb\n"]),
     (b"serve\n", &[b"error,1,fields\n"]),
@@ -88,10 +88,51 @@ const FAULTS: &[Row] = &[
     (b"serve,1\nround\nserve,1\n", &[b"error,3,verb\n"]),
 ];
 
+/// Inputs of gserve without a bad record.
+const LAWFUL_GRAPHS: &[Row] = &[
+    (b"", &[b"final,0,0\n"]),
+    // the reads of a round see the batches of the round before
+    (
+        b"serve,1\nb,0,add,1,2,add,2,3\nround\nr,0,bfs,1\nr,0,degree,1\n",
+        &[b"r,4,1,bfs,3,1,0,2,1,3,2\nr,5,1,degree,1\nj,1,2\nfinal,2,2\n"],
+    ),
+    // an edge is added and cut, in either order
+    (
+        b"serve,2\nb,0,add,1,2\nb,1,cut,1,2\n",
+        &[b"j,1,2\nj,2,3\nfinal,0,0\n", b"j,1,3\nj,2,2\nfinal,1,1\n"],
+    ),
+    // a read sees the batch of its round or does not; a vertex reaches itself in any graph
+    (
+        b"serve,1\nb,0,add,5,5,add,5,6,cut,5,5\nr,0,size\n",
+        &[
+            b"r,3,0,graph,0,0\nj,1,2\nfinal,1,1\n",
+            b"r,3,1,graph,1,1\nj,1,2\nfinal,1,1\n",
+        ],
+    ),
+    (
+        b"serve,1\nr,0,bfs,7\nround\nb,0,add,1,2\nb,0,add,2,1,cut,1,2\nround\nr,0,bfs,2\nr,0,degree,1",
+        &[b"r,2,0,bfs,1,7,0\nr,7,2,bfs,2,1,1,2,0\nr,8,2,degree,0\nj,1,4\nj,2,5\nfinal,1,1\n"],
+    ),
+];
+
+/// Inputs of gserve with a bad record, and the line that names the first one.
+const FAULTY_GRAPHS: &[Row] = &[
+    (b"add,1,2\n", &[b"error,1,verb\n"]),
+    (b"serve,65\n", &[b"error,1,callers\n"]),
+    (b"serve,1\nb,0,put,1,2\n", &[b"error,2,op\n"]),
+    (b"serve,1\nb,0,add,1\n", &[b"error,2,fields\n"]),
+    (b"serve,1\nb,1,add,1,2\n", &[b"error,2,caller\n"]),
+    (b"serve,1\nb,0,add,1,2,cut,x,2\n", &[b"error,2,number\n"]),
+    (b"serve,1\nr,0,get,1\n", &[b"error,2,op\n"]),
+    (b"serve,1\nr,0,size,1\n", &[b"error,2,fields\n"]),
+    (b"serve,1\nr,0,bfs\n", &[b"error,2,fields\n"]),
+];
+
 /// Runs an input in pieces of so many bytes on so many workers.
 fn check(
     rt: &(impl Abort + Threads + Wait + Sync),
     alloc: Global,
+    tool: &'static str,
     row: Row,
     status: Status,
     piece: usize,
@@ -100,9 +141,10 @@ fn check(
     requires { 1 ≤ piece }
 {
     let (input, texts) = row;
-    let (end, text) = serve(
+    let (end, text) = run(
         rt,
         alloc,
+        tool,
         workers,
         input,
         &sound_edge(piece, 1000),
@@ -117,23 +159,34 @@ fn check(
 fn check_all(
     rt: &(impl Abort + Threads + Wait + Sync),
     alloc: Global,
+    tool: &'static str,
     rows: &[Row],
     status: Status,
 ) -> Result<(), Fail> {
     for row in rows {
-        check(rt, alloc, *row, status, 1, "1")?;
-        check(rt, alloc, *row, status, 7, "4")?;
-        check(rt, alloc, *row, status, 1000, "64")?;
+        check(rt, alloc, tool, *row, status, 1, "1")?;
+        check(rt, alloc, tool, *row, status, 7, "4")?;
+        check(rt, alloc, tool, *row, status, 1000, "64")?;
     }
     Ok(())
 }
 
 #[test]
 fn texts_of_lawful_inputs(rt: HostRuntime) -> Result<(), Fail> {
-    check_all(&rt, rt.alloc(), LAWFUL, Status::Ok)
+    check_all(&rt, rt.alloc(), "serve", LAWFUL, Status::Ok)
 }
 
 #[test]
 fn the_line_of_the_first_bad_record(rt: HostRuntime) -> Result<(), Fail> {
-    check_all(&rt, rt.alloc(), FAULTS, Status::BadRecord)
+    check_all(&rt, rt.alloc(), "serve", FAULTS, Status::BadRecord)
+}
+
+#[test]
+fn texts_of_lawful_inputs_of_gserve(rt: HostRuntime) -> Result<(), Fail> {
+    check_all(&rt, rt.alloc(), "gserve", LAWFUL_GRAPHS, Status::Ok)
+}
+
+#[test]
+fn the_line_of_the_first_bad_record_of_gserve(rt: HostRuntime) -> Result<(), Fail> {
+    check_all(&rt, rt.alloc(), "gserve", FAULTY_GRAPHS, Status::BadRecord)
 }
