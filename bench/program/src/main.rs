@@ -2,7 +2,8 @@
 //!
 //! `program_baseline map` reads standard input whole, then all its lines, then runs them, and writes the replies at once, as
 //! `pam map` does. `program_baseline sample SIZE SEED` does what `pam --size SIZE --seed SEED sample` does. The words `interval scan`,
-//! `interval tree`, `points`, `index` and `graph` run these tools, on lawful scripts alone.
+//! `interval tree`, `points`, `index`, `graph` and `check` run these tools, on lawful scripts alone.
+mod check;
 mod graph;
 mod index;
 mod intervals;
@@ -47,6 +48,7 @@ fn main() -> io::Result<ExitCode> {
         ["points"] => run(points::run),
         ["index"] => run(index::run),
         ["graph"] => run(graph::run),
+        ["check"] => run(check::run),
         ["sample", size, seed] => match (size.parse(), seed.parse()) {
             (Ok(size), Ok(seed)) => write(&registers::run(sample::commands(size, seed)), 0),
             _ => Ok(ExitCode::from(2)),
