@@ -44,6 +44,36 @@ impl Graph {
         }
         found
     }
+
+    /// The ends of all edges in order, each with the least vertex of its component: union-find over a sorted vector.
+    fn components(&self) -> Vec<[u64; 2]> {
+        let edges = || self.lists.iter().flat_map(|(from, list)| list.iter().map(move |to| (*from, *to)));
+        let mut vertices: Vec<u64> = edges().flat_map(|(from, to)| [from, to]).collect();
+        vertices.sort_unstable();
+        vertices.dedup();
+        let mut parents: Vec<usize> = (0..vertices.len()).collect();
+        let place = |vertex| vertices.binary_search(&vertex).expect("an end");
+        for (from, to) in edges() {
+            let (a, b) = (root(&mut parents, place(from)), root(&mut parents, place(to)));
+            parents[a.max(b)] = a.min(b);
+        }
+        (0..vertices.len()).map(|at| [vertices[at], vertices[root(&mut parents, at)]]).collect()
+    }
+}
+
+/// The root of a place, by halving its path.
+fn root(parents: &mut [usize], place: usize) -> usize {
+    let mut at = place;
+    while parents[at] != at {
+        parents[at] = parents[parents[at]];
+        at = parents[at];
+    }
+    at
+}
+
+fn label(out: &mut Vec<u8>, graph: &Graph) {
+    let found = graph.components();
+    line(out, "comp", std::iter::once(found.len() as u64).chain(found.into_iter().flatten()));
 }
 
 fn search(out: &mut Vec<u8>, graph: &Graph, from: u64) {
@@ -73,6 +103,7 @@ pub fn run(input: &[u8]) -> Vec<u8> {
             }
             b"size" => line(&mut out, "graph", [graph.lists.len() as u64, graph.edges]),
             b"degree" => line(&mut out, "degree", [graph.lists.get(&number(record[1])).map_or(0, Vec::len) as u64]),
+            b"comp" => label(&mut out, &graph),
             b"now" => search(&mut out, &graph, number(record[1])),
             b"bfs" => match kept.get(number(record[1]) as usize) {
                 Some(snapshot) => search(&mut out, snapshot, number(record[2])),
