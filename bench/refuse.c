@@ -5,6 +5,7 @@
 #include <stdbool.h>
 #include <stdio.h>
 #include <stdlib.h>
+#include <sys/syscall.h>
 #include <unistd.h>
 
 extern void *__libc_malloc(size_t size);
@@ -50,10 +51,13 @@ __attribute__((constructor)) static void begin(void) {
     atomic_store(&counts, true);
 }
 
-__attribute__((destructor)) static void end(void) {
+/* The program under test ends by this call, so that no destructor runs. */
+void _exit(int status) {
     char line[40];
-    if (first != __LONG_MAX__) return;
-    atomic_store(&counts, false);
-    int length = snprintf(line, sizeof line, "allocations %ld\n", atomic_load(&calls));
-    if (write(2, line, length) != length) _exit(1);
+    if (first == __LONG_MAX__) {
+        int length = snprintf(line, sizeof line, "allocations %ld\n", atomic_load(&calls));
+        if (write(2, line, length) != length) status = 1;
+    }
+    syscall(SYS_exit_group, status);
+    __builtin_unreachable();
 }
