@@ -1,3 +1,4 @@
+pub mod Batches
 pub mod Wipes
 pub mod Parted
 pub mod Changed

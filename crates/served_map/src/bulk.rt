@@ -6,7 +6,7 @@ ghost use Rattle.versions.specs.History.{after};
 
 use crate::applying::{ServedMap, apply_all, apply_one};
 use crate::dividing::with_outcomes;
-use aug_monoid::{NoMemory, Share, Steps};
+use aug_monoid::{NoMemory, Steps};
 use fork_join::{Cut, Gate};
 use op_runs::{Op, outcomes_of, split_at_wipe};
 use std::alloc::Global;
@@ -15,7 +15,7 @@ use std::sync::ledger::{Blank, Ledger};
 use std::thread::Threads;
 use versions::Batch;
 
-/// So many operations between two wipes are applied one by one in place. To sort them takes longer.
+/// So many operations between two wipes, and so many of a few batches, are applied one by one in place. To sort them takes longer.
 const FEW_OPS: usize = 64;
 
 /// The map after operations without wipes: they are composed for each key, and what they come to is done at once.
@@ -108,38 +108,86 @@ fn ops_of(alloc: Global, batches: &[Batch<Op>]) -> Result<Vec<Op>, NoMemory>
     Ok(ops)
 }
 
-/// The map after the operations of the batches in order.
+/// Whether the batches have so few operations together that they are applied one by one. It decides of the time alone.
+fn are_few(batches: &[Batch<Op>]) -> bool {
+    let mut left = FEW_OPS;
+    for batch in batches {
+        let count = batch.ops().len();
+        if left < count {
+            return false;
+        }
+        left -= count;
+    }
+    true
+}
+
+/// Applies the operations of the batches in order, one by one in place.
+#[tactic(auto, using(crate::proofs::Batches::after_more))]
+fn apply_each<C: Ledger>(
+    alloc: Global,
+    map: &mut ServedMap,
+    batches: &[Batch<Op>],
+    steps: &mut Steps<C>,
+) -> Result<(), NoMemory>
+    ensures { IfOk result (λ _. map.new.entries ≡ after step map.old.entries batches.now) }
+{
+    for batch in batches {
+        apply_all(alloc, map, batch.ops(), steps)?;
+    }
+    Ok(())
+}
+
+/// Applies the operations of the batches in order, part by part.
+fn apply_many<R: Threads + Sync, G: Gate, C: Ledger>(
+    rt: &R,
+    alloc: Global,
+    gate: &G,
+    cut: Cut,
+    map: &mut ServedMap,
+    batches: &[Batch<Op>],
+    steps: &mut Steps<C>,
+) -> Result<(), NoMemory>
+    ensures { IfOk result (λ _. map.new.entries ≡ after step map.old.entries batches.now) }
+{
+    let ops = ops_of(alloc, batches)?;
+    apply_parts(rt, alloc, gate, cut, map, &ops, steps)
+}
+
+/// The map after the operations of the batches in order, changed in place where it has no other owner.
 pub(crate) fn applied<R: Threads + Sync, G: Gate>(
     rt: &R,
     alloc: Global,
     gate: &G,
     cut: Cut,
-    map: &ServedMap,
+    map: ServedMap,
     batches: &[Batch<Op>],
 ) -> Result<ServedMap, NoMemory>
-    ensures { IfOk result (λ changed. changed.entries ≡ after step map.now.entries batches.now) }
+    ensures { IfOk result (λ changed. changed.entries ≡ after step map.entries batches.now) }
 {
-    let ops = ops_of(alloc, batches)?;
-    applied_counted::<R, G, Brand>(rt, alloc, gate, cut, map, &ops, Blank::new(1))
+    applied_counted::<R, G, Brand>(rt, alloc, gate, cut, map, batches, Blank::new(1))
 }
 
-/// The map after operations in order.
+/// As `applied`, with the steps counted.
 fn applied_counted<R: Threads + Sync, G: Gate, C: Ledger>(
     rt: &R,
     alloc: Global,
     gate: &G,
     cut: Cut,
-    map: &ServedMap,
-    ops: &[Op],
+    map: ServedMap,
+    batches: &[Batch<Op>],
     blank: Blank,
 ) -> Result<ServedMap, NoMemory>
     requires name { blank.name ≡ C.name }
     requires parts { blank.parts ≡ C.parts }
     requires some { 0 < blank.parts }
-    ensures { IfOk result (λ changed. changed.entries ≡ fold step map.now.entries ops.now) }
+    ensures { IfOk result (λ changed. changed.entries ≡ after step map.entries batches.now) }
 {
     let mut steps = Steps::<C>::start(blank);
-    let mut changed = map.share(alloc)?;
-    apply_parts(rt, alloc, gate, cut, &mut changed, ops, &mut steps)?;
+    let mut changed = map;
+    if are_few(batches) {
+        apply_each(alloc, &mut changed, batches, &mut steps)?;
+    } else {
+        apply_many(rt, alloc, gate, cut, &mut changed, batches, &mut steps)?;
+    }
     Ok(changed)
 }

@@ -79,6 +79,19 @@ impl State for Served {
     ) -> Result<Served, NoMemory> {
         change_by(rt, alloc, &FreeGate, cut, self, batches)
     }
+
+    /// As `change`. Each block and node of the map that has no other owner is changed in place.
+    fn changed<R: Threads + Sync>(
+        self,
+        rt: &R,
+        alloc: Global,
+        cut: Cut,
+        batches: &[Batch<Op>],
+    ) -> Result<Served, NoMemory> {
+        let Served { map } = self;
+        let map = applied(rt, alloc, &FreeGate, cut, map, batches)?;
+        Ok(Served { map })
+    }
 }
 
 /// What `change` answers. Its forks enter the gate.
@@ -92,6 +105,7 @@ pub fn change_by<R: Threads + Sync, G: Gate>(
 ) -> Result<Served, NoMemory>
     ensures { IfOk result (λ state. state ≡ after step served.now batches.now) }
 {
-    let map = applied(rt, alloc, gate, cut, &served.map, batches)?;
+    let map = served.map.share(alloc)?;
+    let map = applied(rt, alloc, gate, cut, map, batches)?;
     Ok(Served { map })
 }

@@ -11,7 +11,7 @@ use std::marker::{Send, Sync};
 use std::thread::Threads;
 
 /// A state that changes by operations.
-pub trait State: Share {
+pub trait State: Share + Sized {
     /// An operation.
     type Op: Share;
 
@@ -30,6 +30,21 @@ pub trait State: Share {
         requires { IsSync R.row }
         ensures { IfOk result (λ state. state ≡ after step self.now batches.now) };
 
+    /// The state after the operations of the batches in order, of a state that is given up: what has no other owner may be changed in place.
+    /// A state that refuses is gone. The answer is that of `change`.
+    fn changed<R: Threads + Sync>(
+        self,
+        rt: &R,
+        alloc: Global,
+        cut: Cut,
+        batches: &[Batch<Self::Op>],
+    ) -> Result<Self, NoMemory>
+        requires { IsSync R.row }
+        ensures { IfOk result (λ state. state ≡ after step self batches.now) }
+    {
+        self.change(rt, alloc, cut, batches)
+    }
+
     /// The state after the operations of the batches in order, as `change` makes it.
     /// The answer depends on neither the runtime nor the gate nor the cut, and the gate is not entered:
     /// what forks inside a method of an impl can call no gate but one that it names itself.
@@ -44,6 +59,20 @@ pub trait State: Share {
         ensures { IfOk result (λ state. state ≡ after step self.now batches.now) }
     {
         self.change(rt, alloc, cut, batches)
+    }
+
+    /// As `apply`, of a state that is given up, as `changed` makes it.
+    final fn applied<R: Threads + Sync, G: Gate>(
+        self,
+        rt: &R,
+        alloc: Global,
+        _gate: &G,
+        cut: Cut,
+        batches: &[Batch<Self::Op>],
+    ) -> Result<Self, NoMemory>
+        ensures { IfOk result (λ state. state ≡ after step self batches.now) }
+    {
+        self.changed(rt, alloc, cut, batches)
     }
 }
 
