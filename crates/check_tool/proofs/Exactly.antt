@@ -6,7 +6,7 @@ use Rattle.run_check.specs.declared.verdict.Verdict.TheVariants.{Yes}
 use Rattle.run_check.proofs.Exactly.{IsLastLine, run_serves, serves_run}
 use Rattle.script.specs.Lines.{comma}
 use Rattle.serve_answers.specs.Answering.{answer_of, last_of, totals_of}
-use Rattle.serve_answers.proofs.InLine.{answer_in_line}
+use Rattle.serve_answers.specs.InLine.{answer_in_line}
 use Rattle.serve_input.specs.Converting.{callers_of, records_by, records_from, records_of, rounds_in}
 use Rattle.serve_input.specs.MapOps.{op_of}
 use Rattle.serve_input.proofs.InLine.{reply_in_line}

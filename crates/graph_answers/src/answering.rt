@@ -29,6 +29,8 @@ fn bfs(alloc: Global, graph: &Graph, u: u64, out: &mut Vec<u8>) -> Result<(), No
 }
 
 impl Answers for GraphAnswers {
+    ghost use Rattle.graph_answers.specs.InLine.{answer_in_line};
+
     type Query = EdgeQuery;
 
     ghost answer_of = { answer_of };
@@ -48,4 +50,6 @@ impl Answers for GraphAnswers {
         let graph = self.graph();
         line(out, "final", &[graph.vertices(), graph.edges()])
     }
+
+    ghost in_line = { answer_in_line };
 }

@@ -1,7 +1,7 @@
 -- A text of the tool determines the numbers of its reads and the order of its batches.
 use Rattle.std.proofs.Common.{◌≡◌, ◌<◌, ◌^◌, ℕ, List, [], length}
 use Rattle.graph_answers.specs.Answering.{answer_of, last_of}
-use Rattle.graph_answers.proofs.InLine.{answer_in_line}
+use Rattle.graph_answers.specs.InLine.{answer_in_line}
 use Rattle.gserve_script.specs.EdgeOps.{op_of}
 use Rattle.gserve_script.specs.declared.edge_words.EdgeOp.{EdgeOp}
 use Rattle.gserve_script.specs.declared.edge_words.EdgeQuery.{EdgeQuery}

@@ -14,15 +14,16 @@ use Rattle.serve_text.specs.declared.record.Act.TheVariants.{Submit, Read}
 use Rattle.serve_text.specs.Records.{Asked, Answered, batch_by, batches_of, before, entries_of}
 use Rattle.serve_text.specs.Histories.{AreInRounds}
 use Rattle.serve_text.specs.Determined.{AreNumbered, HasNoLineFeed}
-use Rattle.serve_text.specs.Texts.{reply_line, replies_text, order_line, order_text, serve_text, IsServeText}
+use Rattle.serve_text.specs.Texts.{reply_line, replies_text, serve_text, IsServeText}
 use Rattle.serve_text.proofs.Growing.{batches_of-nil, batches_of-cons, fewer_batches}
 use Rattle.serve_text.proofs.Keys.{same_order}
-use Rattle.run_text.specs.Forms.{Told, told_line, numbers_text, last_text, IsNumber, HasForm}
+use Rattle.run_text.specs.Forms.{Told, told_line, last_text, IsNumber, HasForm}
 use Rattle.run_check.specs.Placing.{placed_of}
 use Rattle.run_check.specs.Verdicts.{numbers_of, places_of, IsOrdered, IsRun}
 use Rattle.run_check.proofs.Keyed.{each_only, keyed_permutation}
 use Rattle.run_check.proofs.Placings.{placed_all}
 use Rattle.run_check.proofs.Judging.{batches_rise, numbers_are, map_twice}
+use Rattle.run_check.proofs.Telling.{order_of}
 
 module _ {O : Type 0} (es : List (Entry O)) where
   abbrev pub IsSole : Entry O → Type 0
@@ -87,10 +88,6 @@ module _ {S O Q : Type 0} (step : S → O → S) (answer : S → Q → List ℕ)
     unfolding reply_line
     lines_of journal [] = refl
     lines_of journal (a ∷ reads) = ap (λ (l : List ℕ). told_line (told_of journal a) ++ l) (lines_of journal reads)
-
-    order_of : (place : ℕ) (journal : List (Entry O)) → order_text place journal ≡ numbers_text place (numbers_of journal)
-    order_of place [] = refl
-    order_of place (e ∷ es) = ap (λ (l : List ℕ). order_line place e.tag ++ l) (order_of (place + 1) es)
 
     one_batch : (caller place : ℕ) (act : Act O Q) → length (batch_by caller place act) ≤ 1
     one_batch caller place (Submit batch) = omega arith

@@ -1,6 +1,7 @@
 -- Lists whose elements are told apart by keys that rise.
 use Rattle.std.proofs.Common.{◌≡◌, ◌≢◌, ◌==◌, ◌∙◌, ℕ, zero, suc, ◌<◌, ◌≤◌, ◌+◌, Bool, true, false, cond, List, [], ◌∷◌, length, get_or, map, filter, take, refl, sym, ap, subst, inl, inr, arith, eq-eqb}
-use Rattle.std.specs.Prelude.{All, sum_by, nat_lt, ◌⊎◌}
+use Rattle.std.specs.Prelude.{All, sum_by, nat_lt, ◌⊎◌, Option, None, Some}
+use Rattle.std.specs.Option.{MatchOption}
 use Rattle.std.specs.List.{AllPairs, AllWithin}
 use Rattle.std.specs.List.Sorted.{IsPermutation, IsNonDecreasingBy, IsPartitionedBy}
 use Rattle.std.proofs.lemmas.Bool.{cases_Bool, ne_eqb, lt-ltb, le-ltb, eqb-true, ltb-true, ltb-false}
@@ -263,3 +264,8 @@ tells_permutation ns ms sorted r rise perm up tells = (
 
 pub map_rising : {X Y : Type 0} (f : X → Y) (n : Y → ℕ) (xs : List X) → IsNonDecreasingBy (λ x. n (f x)) xs → IsNonDecreasingBy n (map f xs)
 map_rising f n xs up = rising_from_pairs n (map f xs) (pairs_map f (λ a b. n a ≤ n b) xs (pairs_from_rising (λ x. n (f x)) xs up))
+
+-- what is found is more than was told
+pub found_more : {X : Type 0} (N : Type 0) (P R : X → Type 0) → ((x : X) → P x → R x) → (o : Option X) → MatchOption o N P → MatchOption o N R
+found_more N P R more None none = none
+found_more N P R more (Some x) found = more x found

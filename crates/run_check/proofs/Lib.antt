@@ -6,5 +6,6 @@ pub mod Keyed
 pub mod NeverFalling
 pub mod Placings
 pub mod ReadLists
+pub mod States
+pub mod Telling
 pub mod TurnLists
-pub mod Versions

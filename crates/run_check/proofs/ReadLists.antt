@@ -3,14 +3,15 @@ use Rattle.std.proofs.Common.{◌≡◌, ◌∙◌, ℕ, suc, ◌<◌, ◌≤◌
 use Rattle.std.specs.Prelude.{All}
 use Rattle.std.proofs.Math.Seq.{take-length}
 use Rattle.std.proofs.lemmas.Grind.{take_at_read}
-use Rattle.std.proofs.lemmas.List.{append-nil, map-append, length-append, length-map, take-append-drop}
+use Rattle.std.proofs.lemmas.List.{append-nil, map-append, length-append, length-map, get_or-map, take-append-drop}
 use Rattle.std.proofs.lemmas.List.Elements.{All-append, All-cons, All-nil}
 use Rattle.serve_text.specs.declared.record.Record.{Record}
 use Rattle.serve_text.specs.declared.record.Act.{Act}
 use Rattle.serve_text.specs.declared.record.Act.TheVariants.{Submit, Read}
 use Rattle.serve_text.specs.Records.{Asked, Answered, read_by, reads_of}
 use Rattle.serve_text.proofs.Growing.{reads_of-nil, reads_of-cons, reads_of-append}
-use Rattle.run_check.specs.Reading.{HaveNumbers, asked_in, numbers_in}
+use Rattle.run_check.specs.Reading.{HaveNumbers, asked_in, numbers_in, numbers_told}
+use Rattle.run_text.specs.Forms.{Told}
 use Rattle.run_check.specs.Verdicts.{places_of}
 use Rattle.run_check.proofs.Keyed.{all_unmap}
 
@@ -50,6 +51,13 @@ numbered_more {Q} now next numbers a inside here longer so_far =
     ap numbers_in longer ∙ map-append (λ (b : Answered Q). b.number) now (a ∷ []) ∙ ap (λ (l : List ℕ). l ++ a.number ∷ []) so_far
     ∙ ap (λ (n : ℕ). take (length now) numbers ++ n ∷ []) here ∙ sym (take_at_read numbers (length now) 0 inside).1
     ∙ ap (λ (n : ℕ). take n numbers) (sym count)
+
+-- the number is that of the next line
+pub numbered_told : {Q : Type 0} (now next : List (Answered Q)) (told : List Told) (t : Told) (a : Answered Q) → length now < length told → t ≡ get_or told (length now) t → a.number ≡ t.number
+    → next ≡ now ++ a ∷ [] → HaveNumbers now (numbers_told told) → HaveNumbers next (numbers_told told)
+numbered_told {Q} now next told t a inside here same longer so_far =
+    numbered_more now next (numbers_told told) a (let z : length now < length (numbers_told told) = omega (arith, inside, length-map told (λ (u : Told). u.number)) in z)
+    (same ∙ ap (λ (u : Told). u.number) here ∙ sym (get_or-map (λ (u : Told). u.number) told (length now) t 0 inside)) longer so_far
 
 -- all reads with all numbers
 pub numbered_all : {O Q : Type 0} (rs : List (Record O Q)) (i : ℕ) (reads : List (Answered Q)) (numbers : List ℕ) → i ≡ length rs → length numbers ≡ length (places_of rs)

@@ -1,19 +1,17 @@
--- Reads in the order of their numbers, and their lines in record order.
-use Rattle.std.proofs.Common.{◌≡◌, ◌∙◌, ℕ, suc, ◌<◌, ◌+◌, Bool, true, List, [], ◌∷◌, ◌++◌, length, get_or, map, take, refl, sym, ap, subst, inl, inr, arith}
+-- Reads in the order of their numbers, and answers in record order.
+use Rattle.std.proofs.Common.{◌≡◌, ◌≢◌, ◌∙◌, ℕ, suc, ◌<◌, ◌+◌, List, [], ◌∷◌, ◌++◌, length, get_or, map, take, refl, sym, ap, subst, inl, inr, arith}
 use Rattle.std.specs.Prelude.{All}
-use Rattle.std.specs.List.{Contains, flat_map}
+use Rattle.std.specs.List.{Contains}
 use Rattle.std.specs.List.Sorted.{IsPermutation, IsNonDecreasingBy}
-use Rattle.std.proofs.Math.ListN.{set, length-set}
 use Rattle.std.proofs.Math.Seq.{take-length}
-use Rattle.std.proofs.lemmas.Bool.Decides.{eqb_tells}
-use Rattle.std.proofs.lemmas.Grind.{take_at_read, get_or-set_at, flat_map-append}
-use Rattle.std.proofs.lemmas.List.{append-nil, length-map, get_or-map, get_or_default, get_or-set_other}
+use Rattle.std.proofs.lemmas.Grind.{take_at_read}
+use Rattle.std.proofs.lemmas.List.{length-map, get_or-map, get_or_default}
 use Rattle.std.proofs.lemmas.List.Elements.{All-push, All-nil, All-contains, Contains-append_left, Contains-push}
 use Rattle.std.proofs.lemmas.List.Sorted.{All-permutation, Contains-permutation}
 use Rattle.serve_text.specs.Records.{Answered}
 use Rattle.serve_text.proofs.Orders.{side}
 use Rattle.run_check.specs.declared.turns.Turn.{Turn}
-use Rattle.run_check.specs.Turns.{IsTurn, AreTurns, HaveLines}
+use Rattle.run_check.specs.Turns.{IsTurn, AreTurns, HaveAnswers}
 
 module _ {Q : Type 0} (reads : List (Answered Q)) where
   -- the turns of the first reads
@@ -61,54 +59,32 @@ some_of : {X : Type 0} (xs : List X) (k : ℕ) → k < length xs → X
 some_of [] k h = absurd (omega (arith, h))
 some_of (x ∷ xs) k h = x
 
-module _ {Q : Type 0} (line : Answered Q → List ℕ) (reads : List (Answered Q)) where
-  pub no_lines : (lines : List (List ℕ)) → length lines ≡ length reads → HaveLines line reads [] lines
-  no_lines lines count = record { count = count; made = All-nil (λ (t : Turn). (d : List ℕ) (a : Answered Q) → get_or lines t.at d ≡ line (get_or reads t.at a)) }
+module _ {Q : Type 0} (answer : Answered Q → List ℕ) (reads : List (Answered Q)) where
+  abbrev IsRightAt : List (List ℕ) → Turn → Type 0
+  IsRightAt answers t = (d : List ℕ) (a : Answered Q) → get_or answers t.at d ≡ answer (get_or reads t.at a)
 
-  still : (lines : List (List ℕ)) (at : ℕ) (b : Answered Q) (t : Turn) → at < length lines → b ≡ get_or reads at b → at < length reads
-      → ((d : List ℕ) (a : Answered Q) → get_or lines t.at d ≡ line (get_or reads t.at a)) → (d : List ℕ) (a : Answered Q) → get_or (set lines at (line b)) t.at d ≡ line (get_or reads t.at a)
-  still lines at b t inside here within was d a =
-      elim (eqb_tells at t.at) [
-        | inl q ↦
-            get_or-set_at lines at t.at (line b) d (sym q.1) inside ∙ ap line (here ∙ get_or_default reads at b a within) ∙ ap (λ (k : ℕ). line (get_or reads k a)) q.1
-        | inr q ↦ get_or-set_other lines at t.at (line b) d (λ z. q.1 (sym z)) ∙ was d a
-      ]
+  pub no_answers : (answers : List (List ℕ)) → length answers ≡ length reads → HaveAnswers answer reads [] answers
+  no_answers answers count = record { count = count; right = All-nil (IsRightAt answers) }
 
-  pub one_more_line : (turns : List Turn) (i : ℕ) (t : Turn) (lines next : List (List ℕ)) (b : Answered Q) → i < length turns → t ≡ get_or turns i t → t.at < length reads → b ≡ get_or reads t.at b
-      → next ≡ set lines t.at (line b) → HaveLines line reads (take i turns) lines → HaveLines line reads (take (i + 1) turns) next
-  one_more_line turns i t lines next b inside turn within here is so_far =
-      let placed : t.at < length lines = omega (arith, within, so_far.count) in
-      let now : List (List ℕ) = set lines t.at (line b) in
+  pub one_more_answer : (turns : List Turn) (i : ℕ) (t : Turn) (answers : List (List ℕ)) (b : Answered Q) (own : List ℕ) → i < length turns → t ≡ get_or turns i t → t.at < length reads → b ≡ get_or reads t.at b
+      → get_or answers t.at own ≡ answer b → HaveAnswers answer reads (take i turns) answers → HaveAnswers answer reads (take (i + 1) turns) answers
+  one_more_answer turns i t answers b own inside turn within here is so_far =
       let longer : take (i + 1) turns ≡ take i turns ++ t ∷ [] = (take_at_read turns i t inside).1 ∙ ap (λ (u : Turn). take i turns ++ u ∷ []) (sym turn) in
-      let P : Turn → Type 0 = λ u. (d : List ℕ) (a : Answered Q) → get_or (set lines t.at (line b)) u.at d ≡ line (get_or reads u.at a) in
-      let here_now : P t = λ d a. get_or-set_at lines t.at t.at (line b) d refl placed ∙ ap line (here ∙ get_or_default reads t.at b a within) in
-      subst (HaveLines line reads (take (i + 1) turns)) (sym is) (record {
-        count = length-set lines t.at (line b) ∙ so_far.count;
-        made = subst (All P) (sym longer) (All-push P (take i turns) t (λ k u h. still lines t.at b (get_or (take i turns) k u) placed here within (so_far.made k u h)) here_now);
-      })
+      let placed : t.at < length answers = omega (arith, within, so_far.count) in
+      let now : IsRightAt answers t = λ d a. get_or_default answers t.at d own placed ∙ is ∙ ap answer (here ∙ get_or_default reads t.at b a within) in
+      record { count = so_far.count; right = subst (All (IsRightAt answers)) (sym longer) (All-push (IsRightAt answers) (take i turns) t so_far.right now) }
 
-  pub all_lines : (turns : List Turn) (i : ℕ) (lines : List (List ℕ)) → AreTurns reads turns → i ≡ length turns → HaveLines line reads (take i turns) lines → lines ≡ map line reads
-  all_lines turns i lines are whole have =
+  pub all_answers : (turns : List Turn) (i : ℕ) (answers : List (List ℕ)) → AreTurns reads turns → i ≡ length turns → HaveAnswers answer reads (take i turns) answers → answers ≡ map answer reads
+  all_answers turns i answers are whole have =
       let all : take i turns ≡ turns = ap (λ (n : ℕ). take n turns) whole ∙ take-length turns in
-      let made = subst (All (λ (t : Turn). (d : List ℕ) (a : Answered Q) → get_or lines t.at d ≡ line (get_or reads t.at a))) all have.made in
-      same_lists lines (map line reads) (have.count ∙ sym (length-map reads line)) (λ k d h.
+      let right = subst (All (IsRightAt answers)) all have.right in
+      same_lists answers (map answer reads) (have.count ∙ sym (length-map reads answer)) (λ k d h.
       let inside : k < length reads = omega (arith, h, have.count) in
       let a = some_of reads k inside in
       let turn : Turn = record { number = (get_or reads k a).number; at = k } in
-      All-contains (λ (t : Turn). (e : List ℕ) (b : Answered Q) → get_or lines t.at e ≡ line (get_or reads t.at b)) turns turn made (are.all k a inside) d a
-      ∙ sym (get_or-map line reads k a d inside))
+      All-contains (IsRightAt answers) turns turn right (are.all k a inside) d a
+      ∙ sym (get_or-map answer reads k a d inside))
 
-pub joined_map : {X : Type 0} (line : X → List ℕ) (xs : List X) → flat_map (λ (l : List ℕ). l) (map line xs) ≡ flat_map line xs
-joined_map line [] = refl
-joined_map line (x ∷ xs) = ap (λ (l : List ℕ). line x ++ l) (joined_map line xs)
-
-pub joined_more : (lines : List (List ℕ)) (i : ℕ) (line now next : List ℕ) → i < length lines → line ≡ get_or lines i line → now ≡ flat_map (λ (l : List ℕ). l) (take i lines) → next ≡ now ++ line
-    → next ≡ flat_map (λ (l : List ℕ). l) (take (i + 1) lines)
-joined_more lines i line now next inside here so_far longer =
-    longer ∙ ap (λ (l : List ℕ). l ++ line) so_far
-    ∙ ap (λ (l : List ℕ). flat_map (λ (k : List ℕ). k) (take i lines) ++ l) (sym (append-nil line))
-    ∙ sym (flat_map-append (λ (l : List ℕ). l) (take i lines) (line ∷ []))
-    ∙ ap (flat_map (λ (l : List ℕ). l)) (ap (λ (l : List ℕ). take i lines ++ l ∷ []) here ∙ sym (take_at_read lines i line inside).1)
-
-pub same_side : {X : Type 0} (xs ys : List X) (r : Bool) → (r ≡ true → xs ≡ ys) × (xs ≡ ys → r ≡ true) → (r ≡ true → ys ≡ xs) × (ys ≡ xs → r ≡ true)
-same_side xs ys r tells = (λ right. sym (tells.0 right), λ e. tells.1 (sym e))
+  pub wrong_answer : (answers : List (List ℕ)) (at : ℕ) (b : Answered Q) (own : List ℕ) → at < length reads → b ≡ get_or reads at b → get_or answers at own ≢ answer b → answers ≢ map answer reads
+  wrong_answer answers at b own within here other is =
+      other (ap (λ (l : List (List ℕ)). get_or l at own) is ∙ get_or-map answer reads at b own within ∙ ap answer (sym here))

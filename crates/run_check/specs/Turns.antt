@@ -21,7 +21,7 @@ module _ {Q : Type 0} where
     pub all : HaveTurns reads turns
     pub rise : IsNonDecreasingBy (λ (t : Turn). t.number) turns
 
--- the lines of the reads whose turns came are made, each at the read's place
-pub record HaveLines {Q : Type 0} (line : Answered Q → List ℕ) (reads : List (Answered Q)) (turns : List Turn) (lines : List (List ℕ)) : Type 0 where
-  pub count : length lines ≡ length reads
-  pub made : All (λ (t : Turn). (d : List ℕ) (a : Answered Q) → slice_index_or lines t.at d ≡ line (slice_index_or reads t.at a)) turns
+-- the answers to the reads whose turns came are those, each at the read's place
+pub record HaveAnswers {Q : Type 0} (answer : Answered Q → List ℕ) (reads : List (Answered Q)) (turns : List Turn) (answers : List (List ℕ)) : Type 0 where
+  pub count : length answers ≡ length reads
+  pub right : All (λ (t : Turn). (d : List ℕ) (a : Answered Q) → slice_index_or answers t.at d ≡ answer (slice_index_or reads t.at a)) turns

@@ -1,20 +1,23 @@
 //! The check of a whole text.
-ghost use Rattle.std.specs.Prelude.{◌<◌, ℕ, IfOk, All};
+ghost use Rattle.std.specs.Prelude.{◌≡◌, ◌<◌, ℕ, IfOk, All};
+ghost use Rattle.serve_text.specs.Records.{reads_of};
 ghost use Rattle.std.specs.List.Sorted.{IsNonDecreasingBy};
 ghost use Rattle.std.specs.Option.{MatchOption};
 ghost use Rattle.serve_text.specs.Determined.{AreNumbered};
 ghost use Rattle.serve_text.specs.Histories.{AreInRounds};
 ghost use Rattle.run_check.specs.Passing.{Passes, IsLeastFailing};
-ghost use Rattle.run_check.specs.Verdicts.{IsNamed, IsVerdict};
+ghost use Rattle.run_text.specs.Forms.{Tells, told_text};
+ghost use Rattle.run_check.specs.Reading.{asked_in, numbers_in, numbers_told};
+ghost use Rattle.run_check.specs.Verdicts.{IsVerdict, places_of};
 
-use crate::placed::{Placed, entries_of, in_order, placed_of};
+use crate::placed::{Placed, batches_of, in_order, placed_of};
 use crate::points::{are_of_their_rounds, callers_rise, numbers_rise, rounds_rise};
 use crate::reads::{Reading, read_places, readings};
-use crate::replay::is_text_of;
+use crate::replay::are_right;
 use crate::verdict::Verdict;
 use aug_monoid::NoMemory;
 use fork_join::{Cut, Gate};
-use run_text::numbers_named;
+use run_text::{Told, parts_told};
 use serve_text::{Answers, Record};
 use std::alloc::Global;
 use std::marker::Sync;
@@ -48,7 +51,7 @@ fn broken_point<O: Drop, Q: Drop>(
     Ok(None)
 }
 
-/// The verdict on a text of the form of a run, whose reads have these numbers and whose batches have this order.
+/// The verdict on a text of the form of a run, which tells this of the reads and the batches.
 fn judged<S: Answers, R: Threads + Sync, G: Gate>(
     rt: &R,
     alloc: Global,
@@ -58,16 +61,17 @@ fn judged<S: Answers, R: Threads + Sync, G: Gate>(
     records: &[Record<S::Op, S::Query>],
     callers: u32,
     reads: &[Reading<'_, S::Query>],
-    order: &[u64],
-    text: &[u8],
+    told: &Told<'_>,
 ) -> Result<Verdict, NoMemory>
     requires numbered { AreNumbered records.now }
     requires rounds { AreInRounds callers records.now }
-    requires named { IsNamed records.now reads.now order.now text.now }
-    ensures { IfOk result (IsVerdict S.step S.answer_of S.last_of base records.now text.now) }
+    requires asked { asked_in reads.now ≡ reads_of records.now }
+    requires numbers { numbers_in reads.now ≡ numbers_told told.now.replies.items }
+    requires told { Tells (places_of records.now) told.now.replies.items told.now.order.items told.now.last.now (told_text told.now.replies.items told.now.order.items told.now.last.now) }
+    ensures { IfOk result (IsVerdict S.step S.answer_of S.last_of base records.now (told_text told.now.replies.items told.now.order.items told.now.last.now)) }
 {
     let placed = placed_of(alloc, records)?;
-    let Some(ordered) = in_order(alloc, placed.as_slice(), order)? else {
+    let Some(ordered) = in_order(alloc, placed.as_slice(), told.order.as_slice())? else {
         return Ok(Verdict::No { point: 1 });
     };
     if let Some(point) = broken_point(
@@ -79,8 +83,18 @@ fn judged<S: Answers, R: Threads + Sync, G: Gate>(
     )? {
         return Ok(Verdict::No { point });
     }
-    let entries = entries_of(alloc, ordered)?;
-    if is_text_of(rt, alloc, gate, cut, base, entries.as_slice(), reads, text)? {
+    let batches = batches_of(alloc, ordered)?;
+    if are_right(
+        rt,
+        alloc,
+        gate,
+        cut,
+        base,
+        batches.as_slice(),
+        reads,
+        told.replies.as_slice(),
+        told.last,
+    )? {
         Ok(Verdict::Yes)
     } else {
         Ok(Verdict::No { point: 6 })
@@ -90,8 +104,9 @@ fn judged<S: Answers, R: Threads + Sync, G: Gate>(
 /// Whether the text is that of a lawful run of the records from this state, and if not the least point that does not hold (`Verdict`).
 ///
 /// The text is read once. For n records, and a text of m bytes, it takes O(m + n log n) besides what the state takes: its batches are applied
-/// once each, those between two reads' versions together, and each read is answered once, in the order of the versions. What the state's own
-/// changes fork enters the gate within the cut; nothing else does. It keeps the text that the run ought to have, to compare it.
+/// once each, those between two reads' versions together, to the one state that there is, and each read is answered once, in the order of the
+/// versions. What the state's own changes fork enters the gate within the cut; nothing else does. It compares each answer with that of the text
+/// as it is made, and keeps none.
 pub fn check<S: Answers, R: Threads + Sync, G: Gate>(
     rt: &R,
     alloc: Global,
@@ -107,11 +122,11 @@ pub fn check<S: Answers, R: Threads + Sync, G: Gate>(
     ensures { IfOk result (IsVerdict S.step S.answer_of S.last_of base records.now text.now) }
 {
     let places = read_places(alloc, records)?;
-    let Some(named) = numbers_named(alloc, places.as_slice(), text)? else {
+    let Some(told) = parts_told(alloc, places.as_slice(), text)? else {
         return Ok(Verdict::No { point: 0 });
     };
-    let reads = readings(alloc, records, named.numbers.as_slice())?;
-    judged(
+    let reads = readings(alloc, records, told.replies.as_slice())?;
+    let verdict = judged(
         rt,
         alloc,
         gate,
@@ -120,7 +135,7 @@ pub fn check<S: Answers, R: Threads + Sync, G: Gate>(
         records,
         callers,
         reads.as_slice(),
-        named.order.as_slice(),
-        text,
-    )
+        &told,
+    )?;
+    Ok(verdict)
 }

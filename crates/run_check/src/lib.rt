@@ -2,7 +2,6 @@
 #![tactic(auto)]
 
 mod checking;
-mod line;
 mod placed;
 mod points;
 mod reads;

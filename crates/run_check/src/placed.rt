@@ -2,13 +2,14 @@
 ghost use Rattle.std.specs.Prelude.{◌≡◌, ◌≢◌, ◌↔◌, ◌++◌, IfOk, OnOk, IsTrue, All};
 ghost use Rattle.std.specs.List.Sorted.{IsPermutation, IsNonDecreasingBy};
 ghost use Rattle.std.specs.Option.{MatchOption};
+ghost use Rattle.versions.specs.History.{batches_in};
 ghost use Rattle.run_check.specs.Placing as placing;
 ghost use Rattle.run_check.specs.Placing.{TagsRise, IsOnlyOf, tags_of, entries_in, placed_by};
 
 use aug_monoid::{NoMemory, Share};
 use serve_text::{Act, Record};
 use std::alloc::Global;
-use versions::Entry;
+use versions::{Batch, Entry};
 
 /// A batch with its round.
 #[derive(Drop)]
@@ -125,26 +126,29 @@ pub(crate) fn in_order<O: Share>(
     requires { TagsRise placed.now }
     ensures { IfOk result (λ o. MatchOption o (¬ (IsPermutation (tags_of placed.now) order.now)) (λ ordered. (tags_of ordered.items ≡ order.now) × IsPermutation placed.now ordered.items)) }
 {
-    if !is_permutation(alloc, placed, order)? {
-        return Ok(None);
+    if is_permutation(alloc, placed, order)? {
+        picked(alloc, placed, order)
+    } else {
+        Ok(None)
     }
-    let Some(ordered) = picked(alloc, placed, order)? else {
-        return Ok(None);
-    };
-    Ok(Some(ordered))
 }
 
-/// The entries of the batches.
-pub(crate) fn entries_of<O: Drop>(
+/// The batches without what stands beside them.
+pub(crate) fn batches_of<O: Drop>(
     alloc: Global,
     placed: Vec<Placed<O>>,
-) -> Result<Vec<Entry<O>>, NoMemory>
-    ensures { IfOk result (λ entries. entries.items ≡ entries_in placed.items) }
+) -> Result<Vec<Batch<O>>, NoMemory>
+    ensures { IfOk result (λ batches. batches.items ≡ batches_in (entries_in placed.items)) }
 {
-    let mut entries = Vec::with_capacity(alloc, placed.len())?;
+    let mut batches = Vec::with_capacity(alloc, placed.len())?;
     for p in placed {
         let Placed { round: _, entry } = p;
-        entries.push(entry)?;
+        let Entry {
+            caller: _,
+            tag: _,
+            batch,
+        } = entry;
+        batches.push(batch)?;
     }
-    Ok(entries)
+    Ok(batches)
 }

@@ -1,168 +1,201 @@
-//! The text of a history, made anew.
-ghost use Rattle.std.specs.Prelude.{◌≡◌, ◌<◌, ◌≤◌, ◌↔◌, ◌++◌, IfOk, IsTrue, All, length, map, take, slice_set};
-ghost use Rattle.std.specs.List.{flat_map};
-ghost use Rattle.versions.specs.History.{history};
-ghost use Rattle.serve_text.specs.Texts as specified;
-ghost use Rattle.serve_text.specs.Texts.{rest_text, serve_text};
+//! The answers of a history, made anew.
+ghost use Rattle.std.specs.Prelude.{◌≡◌, ◌≢◌, ◌≤◌, ◌↔◌, IfOk, IsTrue, All, length, map, take, drop};
+ghost use Rattle.std.specs.Option.{MatchOption};
+ghost use Rattle.versions.specs.History.{after};
+ghost use Rattle.run_check.specs.Reading.{AreRight, answer_to, answers_told, between};
 ghost use Rattle.run_check.specs.Turns.{AreTurns};
 
-use crate::line::{Line, blank_lines, joined};
 use crate::reads::Reading;
 use crate::turns::{Turn, sorted_turns};
 use aug_monoid::NoMemory;
 use fork_join::{Cut, Gate};
-use serve_text::{Answers, reply_line, write_rest};
+use run_text::Reply;
+use serve_text::Answers;
 use std::alloc::Global;
 use std::marker::Sync;
 use std::thread::Threads;
-use versions::{Entry, Version};
+use versions::Batch;
 
-/// The version with so many of the entries: those that it lacks are applied at once.
+/// The state after so many batches.
+#[derive(Drop)]
+struct Standing<S: Answers> {
+    state: S,
+    number: u64,
+}
+
+/// The state after so many of the batches: those that it lacks are applied at once.
 fn advanced<S: Answers, R: Threads + Sync, G: Gate>(
     rt: &R,
     alloc: Global,
     gate: &G,
     cut: Cut,
-    version: Version<S>,
-    entries: &[Entry<S::Op>],
+    standing: Standing<S>,
+    batches: &[Batch<S::Op>],
     number: u64,
-) -> Result<Version<S>, NoMemory>
-    requires begins { version.journal ≡ take (length version.journal) entries.now }
-    requires least { length version.journal ≤ number }
-    requires most { number ≤ length entries.now }
-    ensures { IfOk result (λ later. later ≡ history version.base (take number entries.now)) }
+) -> Result<Standing<S>, NoMemory>
+    requires least { standing.number ≤ number }
+    requires most { number ≤ length batches.now }
+    ensures number { IfOk result (λ later. later.number ≡ number) }
+    ensures state { IfOk result (λ later. later.state ≡ after S.step standing.state (between standing.number number batches.now)) }
 {
-    let done = version.number();
+    let Standing {
+        state,
+        number: done,
+    } = standing;
     if done == number {
-        return Ok(version);
+        return Ok(Standing { state, number });
     }
-    let lacking = &entries[done as usize..number as usize];
-    let later = version.extend(rt, alloc, gate, cut, lacking)?;
-    Ok(later)
+    let lacking = &batches[done as usize..number as usize];
+    let state = state.applied(rt, alloc, gate, cut, lacking)?;
+    Ok(Standing { state, number })
 }
 
-/// What the reads leave: the version of the last one, and their lines in record order.
-#[derive(Drop)]
-struct Replayed<S: Answers> {
-    version: Version<S>,
-    lines: Vec<Line>,
+/// Whether this is what the state answers. What it answers is made in the buffer.
+fn is_answer<S: Answers>(
+    alloc: Global,
+    state: &S,
+    query: &S::Query,
+    answer: &[u8],
+    buffer: &mut Vec<u8>,
+) -> Result<bool, NoMemory>
+    ensures { IfOk result (λ is. IsTrue is ↔ (answer.now ≡ S.answer_of state.now query.now)) }
+{
+    buffer.clear();
+    state.answer(alloc, query, buffer)?;
+    Ok(answer == buffer.as_slice())
 }
 
-/// One read: the version goes on to its number, and its line is kept at its place.
+/// Whether this is the last line of a text that ends in the state.
+fn is_last_line<S: Answers>(alloc: Global, state: &S, last: &[u8]) -> Result<bool, NoMemory>
+    ensures { IfOk result (λ is. IsTrue is ↔ (last.now ≡ S.last_of state.now)) }
+{
+    let mut made = Vec::new(alloc);
+    state.write_last(alloc, &mut made)?;
+    Ok(last == made.as_slice())
+}
+
+/// One read: the state goes on to its number. None where the line tells another answer than the state's.
 fn take_turn<S: Answers, R: Threads + Sync, G: Gate>(
     rt: &R,
     alloc: Global,
     gate: &G,
     cut: Cut,
-    entries: &[Entry<S::Op>],
+    batches: &[Batch<S::Op>],
     read: &Reading<'_, S::Query>,
-    replayed: Replayed<S>,
-    at: usize,
-) -> Result<Replayed<S>, NoMemory>
-    requires begins { replayed.version.journal ≡ take (length replayed.version.journal) entries.now }
-    requires least { length replayed.version.journal ≤ read.now.number }
-    requires most { read.now.number ≤ length entries.now }
-    requires within { at < length replayed.lines.items }
-    ensures version { IfOk result (λ next. next.version ≡ history replayed.version.base (take read.now.number entries.now)) }
-    ensures lines { IfOk result (λ next. next.lines.items ≡ slice_set replayed.lines.items at (specified.reply_line S.step S.answer_of replayed.version.base entries.now read.now)) }
+    reply: &Reply<'_>,
+    standing: Standing<S>,
+    buffer: &mut Vec<u8>,
+) -> Result<Option<Standing<S>>, NoMemory>
+    requires least { standing.number ≤ read.now.number }
+    requires most { read.now.number ≤ length batches.now }
+    ensures { IfOk result (λ o. MatchOption o (reply.now.answer ≢ S.answer_of (after S.step standing.state (between standing.number read.now.number batches.now)) read.now.asked.query) (λ next. (next.number ≡ read.now.number) × (next.state ≡ after S.step standing.state (between standing.number read.now.number batches.now)) × (reply.now.answer ≡ S.answer_of next.state read.now.asked.query))) }
 {
-    let Replayed { version, lines } = replayed;
-    let version = advanced(rt, alloc, gate, cut, version, entries, read.number)?;
-    let mut lines = lines;
-    let bytes = reply_line(alloc, read.place, &version, read.query)?;
-    lines[at] = Line { bytes };
-    Ok(Replayed { version, lines })
+    let next = advanced(rt, alloc, gate, cut, standing, batches, read.number)?;
+    if is_answer(alloc, &next.state, read.query, reply.answer, buffer)? {
+        Ok(Some(next))
+    } else {
+        Ok(None)
+    }
 }
 
-/// The reads in the order of their numbers, each answered by its version.
+/// The reads in the order of their numbers: the state of the last of them. None where the line of one tells another answer than its own.
 fn take_turns<S: Answers, R: Threads + Sync, G: Gate>(
     rt: &R,
     alloc: Global,
     gate: &G,
     cut: Cut,
     base: S,
-    entries: &[Entry<S::Op>],
+    batches: &[Batch<S::Op>],
     reads: &[Reading<'_, S::Query>],
+    replies: &[Reply<'_>],
     turns: &[Turn],
-) -> Result<Replayed<S>, NoMemory>
+) -> Result<Option<Standing<S>>, NoMemory>
     requires turns { AreTurns reads.now turns.now }
-    requires most { All (λ a. a.number ≤ length entries.now) reads.now }
-    ensures base { IfOk result (λ replayed. replayed.version.base ≡ base) }
-    ensures begins { IfOk result (λ replayed. replayed.version.journal ≡ take (length replayed.version.journal) entries.now) }
-    ensures lines { IfOk result (λ replayed. replayed.lines.items ≡ map (specified.reply_line S.step S.answer_of base entries.now) reads.now) }
+    requires told { length replies.now ≡ length reads.now }
+    requires most { All (λ a. a.number ≤ length batches.now) reads.now }
+    ensures { IfOk result (λ o. MatchOption o (answers_told replies.now ≢ map (answer_to S.step S.answer_of base batches.now) reads.now) (λ last. (last.number ≤ length batches.now) × (last.state ≡ after S.step base (take last.number batches.now)) × (answers_told replies.now ≡ map (answer_to S.step S.answer_of base batches.now) reads.now))) }
 {
-    let mut replayed = Replayed {
-        version: Version::first(base),
-        lines: blank_lines(alloc, reads.len())?,
+    let mut standing = Standing {
+        state: base,
+        number: 0,
     };
+    let mut buffer = Vec::new(alloc);
     for turn in turns {
-        replayed = take_turn(
+        let Some(next) = take_turn(
             rt,
             alloc,
             gate,
             cut,
-            entries,
+            batches,
             &reads[turn.at],
-            replayed,
-            turn.at,
-        )?;
+            &replies[turn.at],
+            standing,
+            &mut buffer,
+        )?
+        else {
+            return Ok(None);
+        };
+        standing = next;
     }
-    Ok(replayed)
+    Ok(Some(standing))
 }
 
-/// The lines in record order, and the rest of the text, from the version with all entries.
-fn finished<S: Answers, R: Threads + Sync, G: Gate>(
+/// Whether the last line is that of the state after all batches.
+fn ends_right<S: Answers, R: Threads + Sync, G: Gate>(
     rt: &R,
     alloc: Global,
     gate: &G,
     cut: Cut,
-    entries: &[Entry<S::Op>],
-    replayed: Replayed<S>,
-) -> Result<Vec<u8>, NoMemory>
-    requires { replayed.version.journal ≡ take (length replayed.version.journal) entries.now }
-    ensures { IfOk result (λ text. text.items ≡ flat_map (λ line. line) replayed.lines.items ++ rest_text S.step S.last_of replayed.version.base entries.now) }
+    standing: Standing<S>,
+    batches: &[Batch<S::Op>],
+    last: &[u8],
+) -> Result<bool, NoMemory>
+    requires { standing.number ≤ length batches.now }
+    ensures { IfOk result (λ right. IsTrue right ↔ (last.now ≡ S.last_of (after S.step standing.state (drop standing.number batches.now)))) }
 {
-    let Replayed { version, lines } = replayed;
-    let last = advanced(rt, alloc, gate, cut, version, entries, entries.len() as u64)?;
-    let mut text = joined(alloc, lines.as_slice())?;
-    write_rest(alloc, &last, &mut text)?;
-    Ok(text)
+    let all = advanced(
+        rt,
+        alloc,
+        gate,
+        cut,
+        standing,
+        batches,
+        batches.len() as u64,
+    )?;
+    is_last_line(alloc, &all.state, last)
 }
 
-/// The text of the reads and the entries.
-fn text_of<S: Answers, R: Threads + Sync, G: Gate>(
+/// Whether the lines tell what the reads are answered, and the last line is right. The batches between two of the reads' versions are applied
+/// at once, each batch once, to the one state that there is, which a read asks when it has as many batches as the read's number says.
+pub(crate) fn are_right<S: Answers, R: Threads + Sync, G: Gate>(
     rt: &R,
     alloc: Global,
     gate: &G,
     cut: Cut,
     base: S,
-    entries: &[Entry<S::Op>],
+    batches: &[Batch<S::Op>],
     reads: &[Reading<'_, S::Query>],
-) -> Result<Vec<u8>, NoMemory>
-    requires { All (λ a. a.number ≤ length entries.now) reads.now }
-    ensures { IfOk result (λ text. text.items ≡ serve_text S.step S.answer_of S.last_of base reads.now entries.now) }
+    replies: &[Reply<'_>],
+    last: &[u8],
+) -> Result<bool, NoMemory>
+    requires told { length replies.now ≡ length reads.now }
+    requires most { All (λ a. a.number ≤ length batches.now) reads.now }
+    ensures { IfOk result (λ right. IsTrue right ↔ AreRight S.step S.answer_of S.last_of base batches.now reads.now replies.now last.now) }
 {
     let turns = sorted_turns(alloc, reads)?;
-    let replayed = take_turns(rt, alloc, gate, cut, base, entries, reads, turns.as_slice())?;
-    let text = finished(rt, alloc, gate, cut, entries, replayed)?;
-    Ok(text)
-}
-
-/// Whether the text is that of the reads and the entries. Each version that reads answer from is made once, and what is applied between two
-/// of them is applied at once.
-pub(crate) fn is_text_of<S: Answers, R: Threads + Sync, G: Gate>(
-    rt: &R,
-    alloc: Global,
-    gate: &G,
-    cut: Cut,
-    base: S,
-    entries: &[Entry<S::Op>],
-    reads: &[Reading<'_, S::Query>],
-    text: &[u8],
-) -> Result<bool, NoMemory>
-    requires { All (λ a. a.number ≤ length entries.now) reads.now }
-    ensures { IfOk result (λ is. IsTrue is ↔ (text.now ≡ serve_text S.step S.answer_of S.last_of base reads.now entries.now)) }
-{
-    let expected = text_of(rt, alloc, gate, cut, base, entries, reads)?;
-    Ok(expected.as_slice() == text)
+    let Some(standing) = take_turns(
+        rt,
+        alloc,
+        gate,
+        cut,
+        base,
+        batches,
+        reads,
+        replies,
+        turns.as_slice(),
+    )?
+    else {
+        return Ok(false);
+    };
+    ends_right(rt, alloc, gate, cut, standing, batches, last)
 }

@@ -5,12 +5,12 @@ use Rattle.std.specs.List.{flat_map}
 use Rattle.std.specs.Option.{MatchOption}
 use denote.Ref.{Bor}
 use Rattle.std.proofs.lemmas.List.{append-nil}
-use Rattle.std.proofs.lemmas.List.Elements.{All-cons}
+use Rattle.std.proofs.lemmas.List.Elements.{All-cons, All-map}
 use Rattle.serve_text.specs.Texts.{comma, line_feed, order_line}
 use Rattle.serve_text.specs.Determined.{HasNoLineFeed}
 use Rattle.serve_text.proofs.Decimals.{first_stop, number_before, decimal_in_line}
-use Rattle.run_text.specs.Forms.{HasForm, told_line, IsNumber, numbers_text, last_text}
-use Rattle.run_text.specs.Parts.{TellsReads}
+use Rattle.run_text.specs.Forms.{HasForm, Tells, Told, told_line, IsNumber, numbers_text, last_text}
+use Rattle.run_text.specs.Parts.{TellsReads, TellsThese}
 use Rattle.run_text.proofs.Telling.{head_in_line, behind_same, never_within, all_back, same_reads}
 
 -- a batch's line, with its feed and what stands behind it
@@ -118,17 +118,21 @@ pub not_last : (text line rest : List ℕ) → HasNoLineFeed line → text ≡ l
 not_last text line rest in_line whole more last = more (last_parts text line rest last.0 in_line whole last.1 last.2).1
 
 -- the parts make a whole, and a whole has the parts
-pub whole_form : (places numbers order text told_rest rest : List ℕ) → TellsReads places numbers text told_rest → told_rest ≡ numbers_text 1 order ++ rest → All IsNumber order → IsLast rest → HasForm places numbers order text
-whole_form places numbers order text told_rest rest reads batches fit last = record {
-  told = reads.told;
-  totals = last.0;
-  places_are = reads.places_are;
-  numbers_are = reads.numbers_are;
-  is = reads.is ∙ ap (λ (l : List ℕ). flat_map told_line reads.told ++ l) (batches ∙ ap (λ (l : List ℕ). numbers_text 1 order ++ l) last.2);
-  fit = reads.fit;
-  order_fits = fit;
-  answers_in_line = reads.in_line;
-  totals_in_line = last.1;
+pub whole_told : (places : List ℕ) (told : List Told) (order text told_rest rest : List ℕ) → TellsThese places told text told_rest → told_rest ≡ numbers_text 1 order ++ rest → All IsNumber order → IsLast rest → Tells places told order rest text
+whole_told places told order text told_rest rest reads batches fit last = record {
+  form = record {
+    told = told;
+    totals = last.0;
+    places_are = reads.places_are;
+    numbers_are = refl;
+    is = reads.is ∙ ap (λ (l : List ℕ). flat_map told_line told ++ l) (batches ∙ ap (λ (l : List ℕ). numbers_text 1 order ++ l) last.2);
+    fit = All-map IsNumber (λ (t : Told). t.number) told reads.fit;
+    order_fits = fit;
+    answers_in_line = reads.in_line;
+    totals_in_line = last.1;
+  };
+  told_is = refl;
+  last_is = sym last.2;
 }
 
 pub form_reads : (places numbers order text : List ℕ) → (form : HasForm places numbers order text) → TellsReads places numbers text (numbers_text 1 order ++ last_text form.totals)

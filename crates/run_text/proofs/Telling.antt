@@ -8,12 +8,12 @@ use Rattle.std.proofs.lemmas.Str.Parse.{numerals_by_value, tells_by_index}
 use Rattle.std.proofs.Math.Seq.{take-length}
 use Rattle.std.proofs.lemmas.List.{append_cancel_left, append-nil, map-append, length-map}
 use Rattle.std.proofs.lemmas.Grind.{flat_map-append}
-use Rattle.std.proofs.lemmas.List.Elements.{All-append, All-cons, All-nil, All-from_get_or, All-push}
+use Rattle.std.proofs.lemmas.List.Elements.{All-append, All-cons, All-nil, All-from_get_or, All-map, All-push}
 use Rattle.serve_text.specs.Texts.{comma, line_feed, reply_head}
 use Rattle.serve_text.specs.Determined.{HasNoLineFeed}
 use Rattle.serve_text.proofs.Decimals.{first_stop, number_before, decimal_in_line}
 use Rattle.run_text.specs.Forms.{Told, told_line, IsNumber}
-use Rattle.run_text.specs.Parts.{TellsOne, TellsReads}
+use Rattle.run_text.specs.Parts.{TellsOne, TellsReads, TellsThis, TellsThese}
 
 pub tails : (x : ℕ) (xs ys : List ℕ) → x ∷ xs ≡ x ∷ ys → xs ≡ ys
 tails x xs ys e = cc
@@ -79,8 +79,8 @@ none_told place number text other none tells = never_within line_feed text (114 
 
 -- a line with its parts
 pub told_by_parts : (place number : ℕ) (text line rest behind answer : List ℕ) → HasNoLineFeed line → text ≡ line ++ line_feed ∷ rest
-    → line ≡ 114 ∷ comma ∷ (decimal place ++ comma ∷ behind) → behind ≡ decimal number ++ comma ∷ answer → TellsOne place number text rest
-told_by_parts place number text line rest behind answer in_line is head tail =
+    → line ≡ 114 ∷ comma ∷ (decimal place ++ comma ∷ behind) → behind ≡ decimal number ++ comma ∷ answer → IsNumber number → TellsThis (record { place = place; number = number; answer = answer }) text rest
+told_by_parts place number text line rest behind answer in_line is head tail small =
     let all : line ≡ 114 ∷ comma ∷ (decimal place ++ comma ∷ (decimal number ++ comma ∷ answer)) = head ∙ ap (λ (l : List ℕ). 114 ∷ comma ∷ (decimal place ++ comma ∷ l)) tail in
     let lines : HasNoLineFeed (114 ∷ comma ∷ (decimal place ++ comma ∷ (decimal number ++ comma ∷ answer))) = subst HasNoLineFeed all in_line in
     let later : HasNoLineFeed (decimal place ++ comma ∷ (decimal number ++ comma ∷ answer)) = λ k d h. lines (suc (suc k)) d (omega (arith, h)) in
@@ -88,7 +88,7 @@ told_by_parts place number text line rest behind answer in_line is head tail =
     let number_line : HasNoLineFeed (decimal number ++ comma ∷ answer) = λ k d h. behind_in_line (suc k) d (omega (arith, h)) in
     let last : HasNoLineFeed (comma ∷ answer) = all_back (λ b. b ≢ line_feed) (decimal number) (comma ∷ answer) number_line in
     record {
-      answer = answer;
+      fits = small;
       in_line = λ k d h. last (suc k) d (omega (arith, h));
       is = is ∙ ap (λ (l : List ℕ). l ++ line_feed ∷ rest) all ∙ sym (told_before place number answer rest);
     }
@@ -166,19 +166,24 @@ same_reads places ms ns text us vs a b =
 pub tells_none : (text : List ℕ) → TellsReads [] [] text text
 tells_none text = record { told = []; places_are = refl; numbers_are = refl; fit = All-nil IsNumber; in_line = All-nil (λ (t : Told). HasNoLineFeed t.answer); is = refl }
 
-pub tells_more : (places ns text rest later : List ℕ) (place n : ℕ) → IsNumber n → TellsReads places ns text rest → TellsOne place n rest later → TellsReads (places ++ place ∷ []) (ns ++ n ∷ []) text later
-tells_more places ns text rest later place n small a one =
-    let t : Told = record { place = place; number = n; answer = one.answer } in
-    record {
-      told = a.told ++ t ∷ [];
-      places_are = map-append (λ (u : Told). u.place) a.told (t ∷ []) ∙ ap (λ (l : List ℕ). l ++ place ∷ []) a.places_are;
-      numbers_are = map-append (λ (u : Told). u.number) a.told (t ∷ []) ∙ ap (λ (l : List ℕ). l ++ n ∷ []) a.numbers_are;
-      fit = All-push IsNumber ns n a.fit small;
-      in_line = All-append (λ (u : Told). HasNoLineFeed u.answer) a.told (t ∷ []) a.in_line (All-cons (λ (u : Told). HasNoLineFeed u.answer) t [] one.in_line (All-nil (λ (u : Told). HasNoLineFeed u.answer)));
-      is = a.is ∙ ap (λ (l : List ℕ). flat_map told_line a.told ++ l) (one.is ∙ ap (λ (l : List ℕ). l ++ later) (sym (append-nil (told_line t))))
-          ∙ sym (append_assoc (flat_map told_line a.told) (flat_map told_line (t ∷ [])) later)
-          ∙ ap (λ (l : List ℕ). l ++ later) (sym (flat_map-append told_line a.told (t ∷ [])));
-    }
+-- one more line
+pub these_more : (places : List ℕ) (told next : List Told) (text rest later : List ℕ) (place : ℕ) (t : Told) → t.place ≡ place → next ≡ told ++ t ∷ [] → TellsThese places told text rest → TellsThis t rest later
+    → TellsThese (places ++ place ∷ []) next text later
+these_more places told next text rest later place t same longer a one =
+    subst (λ (l : List Told). TellsThese (places ++ place ∷ []) l text later) (sym longer) (record {
+      places_are = map-append (λ (u : Told). u.place) told (t ∷ []) ∙ (λ i. a.places_are i ++ same i ∷ []);
+      fit = All-push (λ (u : Told). IsNumber u.number) told t a.fit one.fits;
+      in_line = All-push (λ (u : Told). HasNoLineFeed u.answer) told t a.in_line one.in_line;
+      is = a.is ∙ ap (λ (l : List ℕ). flat_map told_line told ++ l) (one.is ∙ ap (λ (l : List ℕ). l ++ later) (sym (append-nil (told_line t))))
+          ∙ sym (append_assoc (flat_map told_line told) (flat_map told_line (t ∷ [])) later)
+          ∙ ap (λ (l : List ℕ). l ++ later) (sym (flat_map-append told_line told (t ∷ [])));
+    })
+
+pub none_yet : (text : List ℕ) → TellsThese [] [] text text
+none_yet text = record { places_are = refl; fit = All-nil (λ (t : Told). IsNumber t.number); in_line = All-nil (λ (t : Told). HasNoLineFeed t.answer); is = refl }
+
+pub these_reads : (places : List ℕ) (told : List Told) (text rest : List ℕ) → TellsThese places told text rest → TellsReads places (numbers_in told) text rest
+these_reads places told text rest a = record { told = told; places_are = a.places_are; numbers_are = refl; fit = All-map IsNumber (λ (t : Told). t.number) told a.fit; in_line = a.in_line; is = a.is }
 
 -- the line at a place of a reading
 pub record TellsAt (i : ℕ) (places ns text : List ℕ) : Type 0 where

@@ -25,6 +25,10 @@ last_text totals = codes "final," ++ (totals ++ line_feed ∷ [])
 abbrev pub IsNumber : ℕ → Type 0
 IsNumber n = n < 2 ^ 64
 
+-- the lines that tell reads, and then an order of batches, and what stands behind them
+abbrev pub told_text : List Told → List ℕ → List ℕ → List ℕ
+told_text told order last = flat_map told_line told ++ (numbers_text 1 order ++ last)
+
 -- the text has a line for each read of these records, in order, then an order of numbers, and a last line
 pub record HasForm (places numbers order text : List ℕ) : Type 0 where
   pub told : List Told
@@ -36,3 +40,9 @@ pub record HasForm (places numbers order text : List ℕ) : Type 0 where
   pub order_fits : All IsNumber order
   pub answers_in_line : All (λ (t : Told). HasNoLineFeed t.answer) told
   pub totals_in_line : HasNoLineFeed totals
+
+-- the text is of the form of a run, and tells these reads, this order of numbers and this last line
+pub record Tells (places : List ℕ) (told : List Told) (order last text : List ℕ) : Type 0 where
+  pub form : HasForm places (map (λ (t : Told). t.number) told) order text
+  pub told_is : form.told ≡ told
+  pub last_is : last_text form.totals ≡ last

@@ -18,3 +18,16 @@ pub record TellsReads (places numbers text rest : List ℕ) : Type 0 where
   pub fit : All IsNumber numbers
   pub in_line : All (λ (t : Told). HasNoLineFeed t.answer) told
   pub is : text ≡ flat_map told_line told ++ rest
+
+-- the first line tells this read
+pub record TellsThis (told : Told) (text rest : List ℕ) : Type 0 where
+  pub fits : IsNumber told.number
+  pub in_line : HasNoLineFeed told.answer
+  pub is : text ≡ told_line told ++ rest
+
+-- the first lines tell these reads, which are of these records
+pub record TellsThese (places : List ℕ) (told : List Told) (text rest : List ℕ) : Type 0 where
+  pub places_are : map (λ (t : Told). t.place) told ≡ places
+  pub fit : All (λ (t : Told). IsNumber t.number) told
+  pub in_line : All (λ (t : Told). HasNoLineFeed t.answer) told
+  pub is : text ≡ flat_map told_line told ++ rest

@@ -8,9 +8,15 @@ ghost use Rattle.run_text.specs.Forms.{IsNumber, last_text, numbers_text};
 use crate::head::behind_head;
 use crate::lines::split_at_byte;
 use crate::number::number;
-use crate::replies::Found;
 use aug_monoid::NoMemory;
 use std::alloc::Global;
+
+/// The numbers that lines name, and the text behind these lines.
+#[derive(Drop)]
+pub(crate) struct Found<'a> {
+    pub(crate) numbers: Vec<u64>,
+    pub(crate) rest: &'a [u8],
+}
 
 /// The number that the first line names at a place of the order, and the text behind the line.
 fn next_batch(text: &[u8], place: u64) -> Option<(u64, &[u8])>

@@ -8,4 +8,5 @@ mod lines;
 mod number;
 mod replies;
 
-pub use form::{Named, numbers_named};
+pub use form::{Told, parts_told};
+pub use replies::Reply;

@@ -99,6 +99,8 @@ fn answer<C: Ledger>(
 }
 
 impl Answers for ServedMap {
+    ghost use Rattle.serve_answers.specs.InLine.{answer_in_line};
+
     type Query = ServeQuery;
 
     ghost answer_of = { answer_of };
@@ -114,4 +116,6 @@ impl Answers for ServedMap {
         let all = totals(map);
         line(out, "final", &[map.size(), all.sum, all.greatest])
     }
+
+    ghost in_line = { answer_in_line };
 }

@@ -75,4 +75,16 @@ impl State for ServedMap {
         let served = self.served.change(rt, alloc, cut, batches)?;
         Ok(ServedMap { served })
     }
+
+    fn changed<R: Threads + Sync>(
+        self,
+        rt: &R,
+        alloc: Global,
+        cut: Cut,
+        batches: &[Batch<Op>],
+    ) -> Result<ServedMap, NoMemory> {
+        let ServedMap { served } = self;
+        let served = served.changed(rt, alloc, cut, batches)?;
+        Ok(ServedMap { served })
+    }
 }

@@ -1,5 +1,6 @@
 //! States that answer queries by text.
 ghost use Rattle.std.specs.Prelude.{◌≡◌, ◌++◌, ℕ, List, OnOk};
+ghost use Rattle.serve_text.specs.Determined.{HasNoLineFeed};
 
 use aug_monoid::NoMemory;
 use std::alloc::Global;
@@ -24,4 +25,6 @@ pub trait Answers: SyncState {
     /// Appends the last line.
     fn write_last(&self, alloc: Global, out: &mut Vec<u8>) -> Result<(), NoMemory>
         ensures { OnOk result (out.new.items ≡ out.old.items ++ last_of self.now) };
+
+    ghost in_line: { (state : Self) (query : Self.Query) → HasNoLineFeed (answer_of state query) };
 }

@@ -6,7 +6,7 @@ use Rattle.serve_script.specs.declared.commands.ServedCommand.{ServedCommand}
 use Rattle.serve_script.specs.declared.map_words.ServeOp.{ServeOp}
 use Rattle.serve_script.specs.declared.map_words.ServeQuery.{ServeQuery}
 use Rattle.serve_answers.specs.Answering.{answer_of, last_of}
-use Rattle.serve_answers.proofs.InLine.{answer_in_line}
+use Rattle.serve_answers.specs.InLine.{answer_in_line}
 use Rattle.serve_input.specs.MapOps.{op_of}
 use Rattle.serve_input.proofs.Numbered.{input_determined}
 use Rattle.serve_tool.specs.Output.{IsServeOutput}

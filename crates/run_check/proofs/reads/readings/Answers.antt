@@ -1,13 +1,13 @@
 use Rattle.std.proofs.Common.{length, take, ap, sym, arith, ◌∙◌}
 use Rattle.serve_text.proofs.Growing.{reads_of-nil}
-use Rattle.run_check.specs.Reading.{asked_in, numbers_in}
+use Rattle.run_check.specs.Reading.{asked_in, numbers_in, numbers_told}
 use Rattle.run_check.proofs.ReadLists.{enough, asked_more}
 use Rattle.run_check.proofs.reads.readings.Goals as goal
 
 pub loop-record-init : goal.loop-record-init
 loop-record-init g c = record {
   asked = ap asked_in c.in_ok-reads.ensures.items ∙ sym (reads_of-nil g.row.O.Denot g.row.Q.Denot);
-  numbers = ap numbers_in c.in_ok-reads.ensures.items ∙ sym (ap (λ l. take (length l) c.args.numbers.now) c.in_ok-reads.ensures.items);
+  numbers = ap numbers_in c.in_ok-reads.ensures.items ∙ sym (ap (λ l. take (length l) (numbers_told c.args.replies.now)) c.in_ok-reads.ensures.items);
 }
 
 pub loop-record-preserved : goal.loop-record-preserved
@@ -18,4 +18,4 @@ loop-record-preserved g c = record {
 
 pub push_reading-requires : goal.push_reading-requires
 push_reading-requires g c =
-    enough c.args.records.now c.loop-record.record-index c.record-item.result (omega arith) c.record-item.is (length c.args.numbers.now) c.loop-record.reads.items c.requires c.loop-record.invariant.asked
+    enough c.args.records.now c.loop-record.record-index c.record-item.result (omega arith) c.record-item.is (length c.args.replies.now) c.loop-record.reads.items c.requires c.loop-record.invariant.asked

@@ -1,11 +1,5 @@
-use Rattle.std.proofs.Common.{◌-◌, ℕ, take, drop, ap}
-use Rattle.run_check.proofs.Versions.{further}
+use Rattle.run_check.proofs.States.{stays}
 use Rattle.run_check.proofs.replay.advanced.Goals as goal
 
-pub returns : goal.returns
-returns g c =
-    let entries = c.args.entries.now in
-    let done = c.number-done.result in
-    let number = c.args.number in
-    further c.args.version c.in_ok-later.later entries (take (number - done) (drop done entries)) number c.requires.begins c.requires.least
-    (ap (λ (n : ℕ). take (number - n) (drop n entries)) c.number-done.ensures) c.in_ok-later.ensures
+pub returns-then-done-number-clause-state : goal.returns-then-done-number-clause-state
+returns-then-done-number-clause-state g c = stays g.S.State.step c.args.standing.state c.args.batches.now c.args.standing.number c.args.number c.if-done-number.true

@@ -1,13 +1,14 @@
 use Rattle.std.proofs.Common.{◌≡◌, ◌≤◌, ◌<◌, ℕ, length, take, get_or}
-use Rattle.serve_text.specs.Texts.{reply_line}
+use Rattle.versions.specs.History.{after}
 use Rattle.run_check.specs.declared.turns.Turn.{Turn}
-use Rattle.run_check.specs.Turns.{HaveLines}
+use Rattle.run_check.specs.Reading.{answer_to, answers_told}
+use Rattle.run_check.specs.Turns.{HaveAnswers}
 use Rattle.run_check.proofs.replay.take_turns.Given as goal
 
 abbrev pub invariant-loop-turn : goal.invariant-loop-turn
 invariant-loop-turn g l = record {
-  base : l.replayed.version.base ≡ l.fn.base;
-  begins : l.replayed.version.journal ≡ take (length l.replayed.version.journal) l.entries;
-  reached : (j : ℕ) (d : Turn) → l.turn-index ≤ j → j < length l.turns → length l.replayed.version.journal ≤ (get_or l.turns j d).number;
-  lines : HaveLines (reply_line g.S.State.step g.S.Answers.answer_of l.fn.base l.entries) l.reads (take l.turn-index l.turns) l.replayed.lines.items;
+  most : l.standing.number ≤ length l.batches;
+  state : l.standing.state ≡ after g.S.State.step l.fn.base (take l.standing.number l.batches);
+  reached : (j : ℕ) (d : Turn) → l.turn-index ≤ j → j < length l.turns → l.standing.number ≤ (get_or l.turns j d).number;
+  answers : HaveAnswers (answer_to g.S.State.step g.S.Answers.answer_of l.fn.base l.batches) l.reads (take l.turn-index l.turns) (answers_told l.replies);
 }

@@ -1,20 +1,15 @@
--- What a served map answers is within one line, so that a text determines its history.
+-- What a served map answers is within one line.
 use Rattle.std.proofs.Common.{◌≡◌, ◌∷◌, ℕ, List, [], codes, length, refl}
 use Rattle.std.specs.Prelude.{Option, Some, None}
 use Rattle.std.specs.Ordering.{nat_cmp}
 use Rattle.map_model.specs.Entries.{lookup}
 use Rattle.map_model.specs.Parts.{rank}
-use Rattle.op_runs.specs.Steps.{step}
-use Rattle.op_runs.specs.declared.op.Op.{Op}
 use Rattle.aug_monoid.specs.declared.totals.Totals.{Totals}
 use Rattle.serve_script.specs.declared.map_words.ServeQuery.{ServeQuery}
 use Rattle.serve_script.specs.declared.map_words.ServeQuery.TheVariants as query
-use Rattle.serve_answers.specs.Answering.{answer_of, found_reply, last_of, range_totals, totals_reply}
-use Rattle.serve_text.specs.Determined.{AreNumbered, HasNoLineFeed}
-use Rattle.serve_text.specs.Texts.{IsServeText}
-use Rattle.serve_text.specs.declared.record.Record.{Record}
+use Rattle.serve_answers.specs.Answering.{answer_of, found_reply, range_totals, totals_reply}
+use Rattle.serve_text.specs.Determined.{HasNoLineFeed}
 use Rattle.serve_input.proofs.InLine.{reply_in_line}
-use Rattle.serve_text.proofs.Determined.{determined}
 
 found_in_line : (found : Option ℕ) → HasNoLineFeed (found_reply found)
 found_in_line None = reply_in_line (codes "none") [] refl
@@ -28,8 +23,3 @@ answer_in_line m (query.Get k) = found_in_line (lookup nat_cmp m k)
 answer_in_line m (query.Sum lo hi) = totals_in_line (range_totals m lo hi)
 answer_in_line m (query.Rank k) = reply_in_line (codes "rank") (rank nat_cmp m k ∷ []) refl
 answer_in_line m query.Size = reply_in_line (codes "size") (length m ∷ []) refl
-
--- two histories of the same numbered records of a served map with one text are the same
-pub served_determined : (base : List (ℕ × ℕ)) (records : List (Record Op ServeQuery)) → AreNumbered records
-    → (text : List ℕ) (a b : IsServeText step answer_of last_of base records text) → (a.reads ≡ b.reads) × (a.journal ≡ b.journal)
-served_determined base = determined step answer_of last_of base answer_in_line

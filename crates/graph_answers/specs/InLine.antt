@@ -1,4 +1,4 @@
--- What a served graph answers is within one line, so that a text determines its history.
+-- What a served graph answers is within one line.
 use Rattle.std.proofs.Common.{◌∷◌, ℕ, List, [], codes, length, refl}
 use Rattle.graph_snap.specs.Edges.{out_neighbours, sources}
 use Rattle.graph_snap.specs.Walks.{reach}
