@@ -1,6 +1,7 @@
 pub mod Joined
 pub mod Merged
 pub mod Sets
-pub mod Offered
-pub mod InOrder
-pub mod Settling
+pub mod Ends
+pub mod Trees
+pub mod Spans
+pub mod Labels

@@ -1,12 +1,16 @@
 -- Components that edges make one, edge by edge.
-use Rattle.std.proofs.Common.{◌≡◌, ◌∙◌, ◌∷◌, ◌≤◌, ◌==◌, ◌||◌, [], ℕ, true, false, cond, List, inl, min, map, refl, sym, ap, ap₂, subst, arith, eq-eqb}
+use Rattle.std.proofs.Common.{◌≡◌, ◌∙◌, ◌∷◌, ◌≤◌, ◌<◌, ◌==◌, ◌||◌, [], ℕ, true, false, cond, List, inl, length, min, map, refl, sym, ap, ap₂, subst, arith, eq-eqb}
 use Rattle.std.specs.Prelude.{All, fold}
 use Rattle.std.specs.List.{Contains}
 use Rattle.std.proofs.lemmas.Bool.{or_right}
 use Rattle.std.proofs.lemmas.Bool.Decides.{nat_tests}
+use Rattle.std.proofs.lemmas.List.{get_or-map, length-map}
 use Rattle.std.proofs.lemmas.List.Elements.{All-cons, All-contains, All-contains_itself, All-head, All-nil, All-tail}
 use Rattle.std.proofs.lemmas.Map.Views.{exact_unsigned_eq}
+use Rattle.graph_snap.specs.Edges.{pairs_of}
+use Rattle.graph_snap.specs.declared.edge.Edge.{Edge}
 use Rattle.graph_comp.specs.Components.{AreComponents, AreJoined, IsLeastJoined, components, least_joined, met}
+use Rattle.graph_comp.specs.Forests.{KeepsEdges}
 use Rattle.graph_comp.specs.declared.labelled.Labelled.{Labelled}
 use Rattle.graph_comp.proofs.Joined.{IsLabelling, joined_back, joined_itself, joined_next, joined_on, same_least, settled_least}
 
@@ -70,7 +74,7 @@ module _ (g : List (ℕ × ℕ)) where
       (subst (λ (f : ℕ → ℕ). f e.0 ≡ f e.1) (sym is) (still_same es (met label e) e.0 e.1 (ends_same label e)))
       (all_same es (met label e) last is)
 
-  least_is : (v : ℕ) → IsLeastJoined g v (least_joined g v)
+  pub least_is : (v : ℕ) → IsLeastJoined g v (least_joined g v)
   unfolding least_joined
   least_is =
       settled_least g (fold met (λ v. v) g)
@@ -90,3 +94,13 @@ module _ (g : List (ℕ × ℕ)) where
   pub determined : (list : List Labelled) → AreComponents g list → list ≡ components g
   unfolding components
   determined list are = made_again list are.labels ∙ ap (map (λ (v : ℕ). let l : Labelled = record { vertex = v; label = least_joined g v } in l)) are.vertices
+
+-- both ends of each edge have one least vertex
+pub keeps_least : (edges : List Edge) → KeepsEdges (least_joined (pairs_of edges)) edges
+unfolding least_joined
+keeps_least edges k d lt =
+    let label = fold met (λ (v : ℕ). v) (pairs_of edges) in
+    let as_pair : Edge → ℕ × ℕ = λ e. (e.from, e.to) in
+    let long : k < length (pairs_of edges) = omega (arith, length-map edges as_pair) in
+    subst (λ (e : ℕ × ℕ). label e.0 ≡ label e.1) (get_or-map as_pair edges k d (d.from, d.to) lt)
+    (all_same (pairs_of edges) (pairs_of edges) (λ v. v) label refl k (d.from, d.to) long)

@@ -1,2 +1,2 @@
 pub mod Components
-pub mod Rounds
+pub mod Forests

@@ -1,18 +1,16 @@
-//! The connected components of a graph, by rounds in which vertices take lesser labels.
+//! The connected components of a graph, by forests.
 //!
-//! Each vertex begins with its own number as its label. In a round each edge whose ends have different labels offers the lesser one
-//! to the other end and to the vertex that is that end's label, each vertex takes the least that it is offered, and then the label
-//! of its label, so that few rounds are needed: some 17 for a path of 100,000 vertices, however it is numbered. This is the
-//! hooking with shortcuts of Shiloach and Vishkin (An O(log n) parallel connectivity algorithm, Journal of Algorithms 3, 1982) with
-//! least labels, as in Zhang, Azad and Hu (FastSV: a distributed-memory connected component algorithm, 2020).
+//! A forest has of each vertex a parent, which is not greater; a root is its own parent, so it is the least vertex of its tree. Each
+//! edge makes the trees of its two ends one: of their two roots the greater gets the lesser as its parent. Paths to roots are halved
+//! on the way (Tarjan and van Leeuwen, Worst-case analysis of set union algorithms, Journal of the ACM 31, 1984). Parts of the edges
+//! make forests of their own, side by side, and two forests are met as if the second one's parents were edges.
 #![tactic(auto)]
 
-mod beginning;
+mod forest;
 mod labelled;
-mod labels;
-mod offers;
-mod relabelling;
-mod rounds;
+mod labelling;
+mod spanning;
+mod vertices;
 
 pub use labelled::Labelled;
-pub use rounds::components;
+pub use labelling::components;
