@@ -8,3 +8,4 @@ pub mod Batched
 pub mod Distances
 pub mod Crosses
 pub mod Listed
+pub mod Elements

@@ -1,13 +1,22 @@
 -- Sets of vertices, merged.
-use Rattle.std.specs.Prelude.{ℕ, List, map}
+use Rattle.std.specs.Prelude.{◌≡◌, [], ◌∷◌, ℕ, List, map}
 use Rattle.std.specs.List.{flat_map}
 use Rattle.std.specs.Ordering.{nat_cmp}
+use Rattle.map_model.specs.Entries.{set}
 use Rattle.map_model.specs.Operations.{build}
 use Rattle.map_model.specs.SetOperations.{difference, union}
 use Rattle.graph_snap.specs.Edges.{Sets, set_at}
 
 abbrev pub merged : List (ℕ × Unit {0}) → List (ℕ × Unit {0}) → List (ℕ × Unit {0})
 merged a b = union nat_cmp (λ x y. x) a b
+
+-- a set with an element
+abbrev pub with_element : List (ℕ × Unit {0}) → ℕ → List (ℕ × Unit {0})
+with_element ns v = set nat_cmp ns v tt
+
+-- a set has this element and no other
+abbrev pub IsOnlyElement : List (ℕ × Unit {0}) → ℕ → Type 0
+IsOnlyElement ns v = ns ≡ (v, tt) ∷ []
 
 -- the out-neighbours of all vertices of a front, in order
 abbrev pub neighbours_of : Sets → List (ℕ × ℕ) → List (ℕ × Unit {0})

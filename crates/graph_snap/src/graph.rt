@@ -43,8 +43,21 @@ impl Drop for Graph {
     }
 }
 
+impl Share for Graph {
+    ghost never_refuses = { ⊥ };
+
+    /// The same graph, in the memory of this one. O(1).
+    fn share(&self, alloc: Global) -> Result<Graph, NoMemory> {
+        let vertices = self.vertices.share(alloc)?;
+        Ok(Graph {
+            vertices,
+            edges: self.edges,
+        })
+    }
+}
+
 impl Graph {
-    /// The graph without edges. It takes no memory.
+    /// The graph without edges. It takes no memory. O(1).
     pub fn new() -> Graph
         ensures { result ≡ [] }
     {
@@ -54,18 +67,8 @@ impl Graph {
         }
     }
 
-    /// The same graph, in the memory of this one.
-    pub fn share(&self, alloc: Global) -> Result<Graph, NoMemory>
-        ensures { IfOk result (λ graph. graph ≡ self.now) }
-    {
-        let vertices = self.vertices.share(alloc)?;
-        Ok(Graph {
-            vertices,
-            edges: self.edges,
-        })
-    }
-
     /// The map from vertices to their sets of out-neighbours. Its keys are the vertices with an out-neighbour.
+    /// O(1).
     pub fn map(&self) -> &Vertices
         ensures edges { edges_of result.now.entries ≡ self.now }
         ensures sets { AreSets result.now.entries }
@@ -73,14 +76,14 @@ impl Graph {
         &self.vertices
     }
 
-    /// How many vertices have an out-neighbour. It takes no walk.
+    /// How many vertices have an out-neighbour. O(1).
     pub fn vertices(&self) -> u64
         ensures { result ≡ length (sources self.now) }
     {
         self.vertices.size()
     }
 
-    /// How many edges there are. It takes no walk.
+    /// How many edges there are. O(1).
     pub fn edges(&self) -> u64
         ensures count { result ≡ length self.now }
         ensures ordered { IsGraph self.now }
@@ -88,22 +91,22 @@ impl Graph {
         self.edges
     }
 
-    /// The edges in order, in time linear in their number.
+    /// The edges in order. O(m) for m edges.
     pub fn list(&self, alloc: Global) -> Result<Vec<Edge>, NoMemory>
         ensures { IfOk result (λ list. pairs_of list.items ≡ self.now) }
     {
         edge_list(alloc, &self.vertices)
     }
 
-    /// How many out-neighbours a vertex has, in time logarithmic in the number of vertices.
+    /// How many out-neighbours a vertex has. O(log n) for n vertices.
     pub fn degree(&self, alloc: Global, vertex: u64) -> Result<u64, NoMemory>
         ensures { IfOk result (λ n. n ≡ length (out_neighbours self.now vertex)) }
     {
         degree_at(alloc, &self.vertices, vertex)
     }
 
-    /// The graph with these edges too. For k edges and n vertices it takes about k * log(n * k) work, which forks where the cut
-    /// allows it, but for the grouping by vertex.
+    /// The graph with these edges too. O(k * log(n * k)) for k edges and n vertices, which forks where the cut allows it, but for
+    /// the grouping by vertex.
     pub fn add_edges<R: Threads + Sync, G: Gate>(
         &self,
         rt: &R,
@@ -121,7 +124,7 @@ impl Graph {
         Ok(Graph { vertices, edges })
     }
 
-    /// The graph without these edges, which need not be there, in the time of `add_edges`.
+    /// The graph without these edges, which need not be there. O(k * log(n * k)) for k edges and n vertices, forked as `add_edges`.
     pub fn cut_edges<R: Threads + Sync, G: Gate>(
         &self,
         rt: &R,
@@ -141,7 +144,7 @@ impl Graph {
 
     /// The vertices that walks from `from` reach, in order, each with the least number of edges of such a walk; `from` itself
     /// is at 0. For each distance it gathers the out-neighbours of the vertices there, in parts that fork where the cut allows
-    /// it, and sorts them. For m edges from what is reached, and n vertices, it takes about m * log(n * m) work.
+    /// it, and sorts them. O(m * log(n * m)) for m edges from what is reached, and n vertices.
     pub fn bfs<R: Threads + Sync, G: Gate>(
         &self,
         rt: &R,
@@ -156,7 +159,7 @@ impl Graph {
         search(rt, alloc, gate, cut, &self.vertices, from)
     }
 
-    /// What `bfs` answers, on one thread.
+    /// What `bfs` answers, on one thread. O(m * log(n * m)) for m edges from what is reached, and n vertices.
     pub fn bfs_alone(&self, alloc: Global, from: u64) -> Result<Vec<Reached>, NoMemory>
         ensures value { IfOk result (λ found. found.items ≡ reach self.now from) }
         ensures least { IfOk result (λ found. HasDistances self.now from found.items) }

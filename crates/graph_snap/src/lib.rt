@@ -3,6 +3,7 @@
 
 mod batch;
 mod counting;
+mod cross;
 mod degrees;
 mod edge;
 mod graph;
@@ -12,6 +13,7 @@ mod search;
 mod search_alone;
 mod vertices;
 
+pub use cross::graph_crosses;
 pub use degrees::Degrees;
 pub use edge::{Edge, Reached};
 pub use graph::Graph;

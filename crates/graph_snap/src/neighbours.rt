@@ -1,16 +1,17 @@
 //! Sets of out-neighbours.
-ghost use Rattle.std.specs.Prelude.{◌≡◌, [], length, IfOk};
+ghost use Rattle.std.specs.Prelude.{◌≡◌, ◌<◌, [], length, IfOk, IfSome};
 ghost use Rattle.std.specs.Ordering.{nat_cmp};
 ghost use Rattle.map_model.specs.Entries.{IsIncreasing};
 ghost use Rattle.map_model.specs.Operations.{build};
 ghost use Rattle.map_model.specs.SetOperations.{difference};
 ghost use Rattle.graph_snap.specs.Batches.{ends, has_elements};
-ghost use Rattle.graph_snap.specs.Merging.{merged};
+ghost use Rattle.graph_snap.specs.Merging.{IsOnlyElement, merged, with_element};
 
 use aug_map::CodedMap;
-use aug_monoid::{First, NoMemory, Nothing, Resolve, Share, Test};
+use aug_monoid::{First, NoMemory, Nothing, Resolve, Share, Steps, Test};
 use std::alloc::Global;
-use std::marker::Model;
+use std::marker::{Brand, Model};
+use std::sync::ledger::{Blank, Ledger};
 
 /// The set of a vertex's out-neighbours, as the keys of a map.
 pub struct Neighbours {
@@ -60,6 +61,49 @@ fn set_of_ends(alloc: Global, run: &[(u64, u64)]) -> Result<CodedMap<Nothing<u64
     CodedMap::build_alone(alloc, &keys)
 }
 
+// The only element, where there is one and no more.
+fn only_element(alloc: Global, set: &CodedMap<Nothing<u64, ()>>) -> Result<Option<u64>, NoMemory>
+    ensures { IfOk result (λ only. IfSome only (IsOnlyElement set.now.entries)) }
+{
+    if set.size() != 1 {
+        return Ok(None);
+    }
+    match set.select(alloc, 0)? {
+        Some(entry) => Ok(Some(entry.0)),
+        None => Ok(None),
+    }
+}
+
+// The set with one element more, or the same one, with a counter that the caller gives up.
+fn put_element<C: Ledger>(
+    alloc: Global,
+    set: &CodedMap<Nothing<u64, ()>>,
+    element: u64,
+    blank: Blank,
+) -> Result<CodedMap<Nothing<u64, ()>>, NoMemory>
+    requires name { blank.name ≡ C.name }
+    requires parts { blank.parts ≡ C.parts }
+    requires some { 0 < blank.parts }
+    ensures { IfOk result (λ more. more.entries ≡ with_element set.now.entries element) }
+{
+    let mut steps = Steps::<C>::start(blank);
+    set.put(alloc, element, (), &mut steps)
+}
+
+// The elements of either set. A second set of one element, as most are that a batch of edges makes, is put.
+fn either_of(
+    alloc: Global,
+    a: &CodedMap<Nothing<u64, ()>>,
+    b: &CodedMap<Nothing<u64, ()>>,
+) -> Result<CodedMap<Nothing<u64, ()>>, NoMemory>
+    ensures { IfOk result (λ both. both.entries ≡ merged a.now.entries b.now.entries) }
+{
+    match only_element(alloc, b)? {
+        Some(element) => put_element::<Brand>(alloc, a, element, Blank::new(1)),
+        None => a.union_alone(alloc, b, &First),
+    }
+}
+
 impl Neighbours {
     /// The set without elements.
     pub(crate) fn none() -> Neighbours
@@ -70,7 +114,7 @@ impl Neighbours {
         }
     }
 
-    /// Its elements, as the keys of a map.
+    /// Its elements, as the keys of a map. O(1).
     pub fn map(&self) -> &CodedMap<Nothing<u64, ()>>
         ensures { result.now.entries ≡ self.now }
     {
@@ -97,7 +141,7 @@ impl Neighbours {
     pub(crate) fn merged(&self, alloc: Global, other: &Neighbours) -> Result<Neighbours, NoMemory>
         ensures { IfOk result (λ set. set ≡ merged self.now other.now) }
     {
-        let set = self.set.union_alone(alloc, &other.set, &First)?;
+        let set = either_of(alloc, &self.set, &other.set)?;
         Ok(Neighbours { set })
     }
 

@@ -8,7 +8,7 @@ ghost use Rattle.script.specs.Lines.{line_of};
 use crate::GraphCommand;
 use crate::graphs::{Graphs, edges_in};
 use crate::replies::{labelled, reached};
-use aug_monoid::NoMemory;
+use aug_monoid::{NoMemory, Share};
 use fork_join::{Cut, Gate};
 use graph_comp::components;
 use graph_snap::Graph;

@@ -10,7 +10,7 @@ use Rattle.std.proofs.lemmas.Map.Lookups.{exact_pairs, exact_unsigned}
 use Rattle.aug_monoid.specs.Exact.{pair64_cmp, pair64_exact}
 use Rattle.aug_monoid.specs.declared.pair64.Pair64.{Pair64}
 use Rattle.map_model.specs.Entries.{AllAbove, IsIncreasing, lookup}
-use Rattle.map_model.specs.Operations.{Operation, after, build, change, changes, del, dels, dels_of, last_at, put, puts, puts_of}
+use Rattle.map_model.specs.Operations.{Operation, after, build, changes, del, dels, dels_of, last_at, put, puts, puts_of}
 use Rattle.map_model.specs.Order.{IsExact}
 use Rattle.map_model.proofs.Lookups.{option_or-none}
 use Rattle.map_model.proofs.Operations.{IsIncreasing-build, after-net, last_at-cons, lookup-after_puts}

@@ -66,8 +66,8 @@ impl State for ServedGraph {
 
     ghost step = { step };
 
-    /// The operations are put in order by their edges, of those on one edge the last one counts, and then all edges are added and
-    /// cut at once by `add_edges` and `cut_edges`, forked within the cut: for n operations and a graph of m vertices
+    /// The operations are put in order by their edges, of those on one edge the last one counts, and then all edges are cut and
+    /// added at once by `cut_edges` and `add_edges`, forked within the cut: for n operations and a graph of m vertices
     /// O(n * log(n + m)).
     fn change<R: Threads + Sync>(
         &self,

@@ -1,0 +1,13 @@
+//! Graphs cross threads.
+use crate::edge::{Edge, Reached};
+use crate::graph::Graph;
+use std::marker::{Send, Sync};
+
+fn crosses<T: Send + Sync>(_value: &T) {}
+
+/// Graphs, their edges and what searches answer are sent to and shared among threads.
+pub fn graph_crosses(graph: &Graph, edge: &Edge, reached: &Reached) {
+    crosses(graph);
+    crosses(edge);
+    crosses(reached);
+}
