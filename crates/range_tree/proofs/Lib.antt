@@ -3,3 +3,4 @@ mod Sums
 mod Kept
 mod Inside
 mod Listed
+pub mod Crosses

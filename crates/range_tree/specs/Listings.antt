@@ -28,6 +28,10 @@ swapped_entry e = (swapped e.0, e.1)
 abbrev pub points_of : List (Pair64 × ℕ) → List (Pair64 × ℕ)
 points_of rows = build pair64_cmp (map swapped_entry rows)
 
+-- points as rows: by (y, x)
+abbrev pub by_rows : List (Pair64 × ℕ) → List (Pair64 × ℕ)
+by_rows points = build pair64_cmp (map swapped_entry points)
+
 -- the points of some rows with y from y1 to y2
 abbrev pub rows_points : ℕ → ℕ → List (Pair64 × ℕ) → List (Pair64 × ℕ)
 rows_points y1 y2 rows = points_of (lines y1 y2 rows)
@@ -76,6 +80,10 @@ lookup-rows (e ∷ m) q s =
     equal_from_test Equal h = refl
     equal_from_test Less h = (cc)
     equal_from_test Greater h = (cc)
+
+-- the folded rows of points are the points by rows
+pub rows_are : (m : List (Pair64 × ℕ)) → IsIncreasing pair64_cmp m → rows_of m ≡ by_rows m
+rows_are m s = sym (build-is pair64_total pair64_exact (map swapped_entry m) (rows_of m) (rows_increase m) (λ q. lookup-rows m q s ∙ sym (last_at-swapped m q s)))
 
 -- ---- the points whose rows pass a test, in order
 

@@ -1,9 +1,10 @@
 //! A two-level range tree: points in the plane, with the total and the list of those in a rectangle.
 //!
 //! The outer map has the points by (x, y). The augmented value of each of its parts is the map of the same points by (y, x),
-//! with the sum of their weights.
+//! with the sum of their weights. Both maps store their blocks as gaps between the first numbers of places.
 #![tactic(auto)]
 
+mod cross;
 mod listings;
 mod places;
 mod points;
@@ -11,6 +12,7 @@ mod rows;
 mod totals;
 mod tree;
 
+pub use cross::points_cross;
 pub use points::{Point, Rect, Total};
-pub use rows::{Places, Rows};
-pub use tree::Points;
+pub use rows::{Places, RowMap, Rows};
+pub use tree::{PointMap, Points};

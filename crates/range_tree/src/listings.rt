@@ -3,9 +3,8 @@ ghost use Rattle.std.specs.Prelude.{◌≡◌, ◌++◌, map, IfOk};
 ghost use Rattle.range_tree.specs.Listings.{append_monoid, points_of, rows_points, rows_points_projection, swapped_entry};
 
 use crate::places::{greatest_at, least_at, swapped};
-use crate::rows::{Places, Rows};
-use aug_map::PlainMap;
-use aug_monoid::{NoMemory, Pair64, Project, SumMax};
+use crate::rows::{Places, RowMap, Rows};
+use aug_monoid::{NoMemory, Pair64, Project};
 use std::alloc::Global;
 use std::marker::Model;
 
@@ -72,7 +71,7 @@ impl Project<Places> for RowPoints {
 }
 
 /// The points of rows, sorted by (x, y).
-fn points_of(alloc: Global, rows: &PlainMap<SumMax<Pair64>>) -> Result<Vec<(Pair64, u64)>, NoMemory>
+fn points_of(alloc: Global, rows: &RowMap) -> Result<Vec<(Pair64, u64)>, NoMemory>
     ensures { IfOk result (λ points. points.items ≡ points_of rows.now.entries) }
 {
     let _number = rows.size();

@@ -3,15 +3,19 @@ ghost use Rattle.std.specs.Prelude.{◌≡◌, []};
 ghost use Rattle.range_tree.specs.Rows.{AreRows, row_increases, row_of, rows_monoid, rows_of_both};
 
 use crate::places::swapped;
-use aug_map::{MapOver, PlainMap};
+use aug_map::{Map, MapOver};
 use aug_monoid::{Augment, NoMemory, Pair64, Second, Share, Steps, SumMax};
+use row_leaf::RowLeaf;
 use std::alloc::Global;
 use std::marker::Model;
 use std::sync::ledger::Ledger;
 
+/// A map from (y, x) to weight, with the sum of the weights, in blocks of 64 to 128 points that are stored as gaps between rows.
+pub type RowMap = Map<SumMax<Pair64>, RowLeaf, 64>;
+
 /// Points by rows: the map from (y, x) to weight, with the sum of the weights. Contracts see the list of its entries.
 pub struct Rows {
-    map: PlainMap<SumMax<Pair64>>,
+    map: RowMap,
 }
 
 impl Model for Rows {
@@ -32,7 +36,7 @@ impl Drop for Rows {
 
 impl Rows {
     /// Lends the map from (y, x) to weight.
-    pub fn map(&self) -> &PlainMap<SumMax<Pair64>>
+    pub fn map(&self) -> &RowMap
         ensures { result.now.entries ≡ self.now }
     {
         &self.map

@@ -7,9 +7,8 @@ ghost use Rattle.range_tree.specs.Totals.{total_both, total_monoid};
 
 use crate::places::{greatest_at, least_at};
 use crate::points::Total;
-use crate::rows::{Places, Rows};
-use aug_map::PlainMap;
-use aug_monoid::{NoMemory, Pair64, Project, Steps, SumMax};
+use crate::rows::{Places, RowMap, Rows};
+use aug_monoid::{NoMemory, Pair64, Project, Steps};
 use std::alloc::Global;
 use std::marker::Brand;
 use std::sync::ledger::{Blank, Ledger};
@@ -57,7 +56,7 @@ impl Project<Places> for RowTotal {
 /// How many entries have keys up to `key`.
 fn count_upto<C: Ledger>(
     alloc: Global,
-    map: &PlainMap<SumMax<Pair64>>,
+    map: &RowMap,
     key: &Pair64,
     steps: &mut Steps<C>,
 ) -> Result<u64, NoMemory>
@@ -74,7 +73,7 @@ fn count_upto<C: Ledger>(
 /// How many entries have keys from `lo` to `hi`.
 fn count_between<C: Ledger>(
     alloc: Global,
-    map: &PlainMap<SumMax<Pair64>>,
+    map: &RowMap,
     lo: &Pair64,
     hi: &Pair64,
     steps: &mut Steps<C>,
@@ -91,7 +90,7 @@ fn count_between<C: Ledger>(
 /// The total of the entries with keys from `lo` to `hi`.
 fn total_between<C: Ledger>(
     alloc: Global,
-    map: &PlainMap<SumMax<Pair64>>,
+    map: &RowMap,
     lo: &Pair64,
     hi: &Pair64,
     steps: &mut Steps<C>,
@@ -107,7 +106,7 @@ fn total_between<C: Ledger>(
 // The same, with no steps counted.
 fn total_uncounted<C: Ledger>(
     alloc: Global,
-    map: &PlainMap<SumMax<Pair64>>,
+    map: &RowMap,
     lo: &Pair64,
     hi: &Pair64,
     blank: Blank,

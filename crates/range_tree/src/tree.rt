@@ -1,26 +1,31 @@
 //! Points in the plane.
-ghost use Rattle.std.specs.Prelude.{◌≡◌, [], length, map, IfOk};
+ghost use Rattle.std.specs.Prelude.{◌≡◌, ◌↔◌, [], length, map, IfOk, IfSome, IsNone};
 ghost use Rattle.aug_monoid.specs.Exact.{pair64_cmp};
 ghost use Rattle.map_model.specs.Entries.{AllKeys, IsIncreasing};
 ghost use Rattle.map_model.specs.Operations.{after, dels, puts};
+ghost use Rattle.range_tree.specs.Listings.{by_rows};
 ghost use Rattle.range_tree.specs.Places.{IsPlace};
 ghost use Rattle.range_tree.specs.Points.{entry_of, inside, point_of, total_of};
 
 use crate::listings::RowPoints;
 use crate::places::{greatest_at, least_at};
 use crate::points::{Point, Rect, Total};
-use crate::rows::Places;
+use crate::rows::{Places, Rows};
 use crate::totals::RowTotal;
-use aug_map::{MapOver, PlainMap};
+use aug_map::{Map, MapOver};
 use aug_monoid::{NoMemory, Pair64, Share};
 use fork_join::{Cut, Gate};
+use row_leaf::RowLeaf;
 use std::alloc::Global;
 use std::marker::{Model, Sync};
 use std::thread::Threads;
 
+/// A map from (x, y) to weight, with the same points by (y, x), in blocks of 64 to 128 points that are stored as gaps between columns.
+pub type PointMap = Map<Places, RowLeaf, 64>;
+
 /// Points in the plane, one at a place. Contracts see the map from (x, y) to weight. No call changes its arguments.
 pub struct Points {
-    map: PlainMap<Places>,
+    map: PointMap,
 }
 
 impl Model for Points {
@@ -71,10 +76,19 @@ impl Points {
     }
 
     /// Lends the map from (x, y) to weight.
-    pub fn map(&self) -> &PlainMap<Places>
+    pub fn map(&self) -> &PointMap
         ensures { result.now.entries ≡ self.now }
     {
         &self.map
+    }
+
+    /// The same points by (y, x), which are stored; none exactly where there are no points.
+    pub fn rows(&self) -> Option<&Rows>
+        ensures none { IsNone result ↔ (self.now ≡ []) }
+        ensures same { IfSome result (λ rows. rows.now ≡ by_rows self.now) }
+    {
+        let _number = self.map.size();
+        self.map.aug()
     }
 
     /// With these points set in order, so that a later point replaces an earlier one at its place. It is one bulk operation,

@@ -1,0 +1,8 @@
+use Rattle.range_tree.proofs.Crosses.{crosses}
+use Rattle.range_tree.proofs.cross.points_cross.Goals as goal
+
+pub crosses-requires-send-T : goal.crosses-requires-send-T
+crosses-requires-send-T c κs = search crosses depth 20
+
+pub crosses-requires-sync-T : goal.crosses-requires-sync-T
+crosses-requires-sync-T c κs = search crosses depth 20

@@ -1,0 +1,5 @@
+pub mod Cells
+pub mod Rising
+pub mod Seeks
+pub mod Builds
+pub mod Views

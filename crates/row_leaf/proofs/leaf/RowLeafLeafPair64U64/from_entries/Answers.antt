@@ -1,0 +1,9 @@
+use Rattle.row_leaf.specs.CodeLaws.{places_again}
+use Rattle.row_leaf.proofs.Views.{entries_are, rise}
+use Rattle.row_leaf.proofs.leaf.RowLeafLeafPair64U64.from_entries.Goals as goal
+
+pub invariant_of-result : goal.invariant_of-result
+invariant_of-result c = rise _ _ c.in_ok-stored.ensures _ (places_again c.args.from.now) c.requires.increasing
+
+pub returns : goal.returns
+returns c = entries_are _ _ c.in_ok-stored.ensures _ (places_again c.args.from.now)
