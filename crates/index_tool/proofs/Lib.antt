@@ -2,3 +2,4 @@ pub mod TermFacts
 pub mod IndexFacts
 pub mod Lawful
 pub mod Numbered
+pub mod Waiting

@@ -2,6 +2,7 @@
 #![tactic(auto)]
 
 mod asking;
+mod batch;
 mod commands;
 mod running;
 mod term_fields;

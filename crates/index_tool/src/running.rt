@@ -1,85 +1,89 @@
 //! Runs the commands of the tool index.
-ghost use Rattle.std.specs.Prelude.{◌≡◌, ◌++◌, [], ◌∷◌, IfOk, codes, if◌then◌else◌, length};
+ghost use Rattle.std.specs.Prelude.{◌≡◌, ◌++◌, [], IfOk, OnOk};
 ghost use Rattle.std.specs.List.{AllByRecursion};
-ghost use Rattle.std.specs.Ordering.{nat_cmp};
-ghost use Rattle.map_model.specs.Entries.{set};
-ghost use Rattle.index_tool.specs.Effects.{doc_after, doc_reply, index_after, index_reply};
+ghost use Rattle.index_tool.specs.Effects.{Asks, doc_lines, index_after, index_reply};
 ghost use Rattle.index_tool.specs.IndexRecords.{HasTerms};
+ghost use Rattle.inverted_index.specs.Added.{with_docs};
 ghost use Rattle.script.specs.Replies.{replies};
 
 use crate::IndexCommand;
 use crate::asking::{all_of, any_of, docs_line, top, without};
+use crate::batch::settle;
 use aug_monoid::NoMemory;
 use fork_join::{Cut, Gate};
-use inverted_index::{Added, Index};
-use script::line;
+use inverted_index::{Doc, Index};
 use std::alloc::Global;
 use std::marker::Sync;
 use std::thread::Threads;
 
-// Adds a document, and appends the reply.
-fn add_doc<R: Threads + Sync, G: Gate>(
+// Appends the reply to a question.
+fn answer<R: Threads + Sync, G: Gate>(
     rt: &R,
     alloc: Global,
     gate: &G,
     cut: Cut,
-    index: Index,
-    doc: u64,
-    words: &[u8],
+    index: &Index,
+    command: &IndexCommand,
     text: &mut Vec<u8>,
-) -> Result<Index, NoMemory>
-    ensures after { IfOk result (λ after. after ≡ doc_after index doc words.now) }
-    ensures reply { IfOk result (λ _. text.new.items ≡ text.old.items ++ doc_reply index doc words.now) }
+) -> Result<(), NoMemory>
+    requires lawful { HasTerms command.now }
+    requires asks { Asks command.now }
+    ensures { OnOk result (text.new.items ≡ text.old.items ++ index_reply index.now command.now) }
 {
-    match index.add_doc(rt, alloc, gate, cut, doc, words)? {
-        Added::Known => {
-            line(text, "known", &[])?;
-            Ok(index)
+    let hits = match command {
+        IndexCommand::Doc { .. } => unreachable!(),
+        IndexCommand::And { place: _, terms } => {
+            all_of(rt, alloc, gate, cut, index, terms.items())?
         }
-        Added::New { index, terms } => {
-            line(text, "ok", &[terms])?;
-            Ok(index)
+        IndexCommand::Or { place: _, terms } => {
+            any_of(rt, alloc, gate, cut, index, terms.items())?
         }
-    }
+        IndexCommand::Without { place: _, terms } => {
+            without(rt, alloc, gate, cut, index, terms.items())?
+        }
+        IndexCommand::Top { place: _, i, term } => top(alloc, index, *i, term.items())?,
+    };
+    docs_line(alloc, text, &hits)
 }
 
-// Runs a command, and appends its reply.
-fn run_command<R: Threads + Sync, G: Gate>(
+// Runs a command on an index and documents that wait to be added to it: one that adds a document lets it wait, a question is
+// answered once none waits.
+#[tactic(auto, using(crate::proofs::Waiting::docs_more, crate::proofs::Waiting::lines_more, crate::proofs::Waiting::asks_keeps))]
+fn run_command<'a, R: Threads + Sync, G: Gate>(
     rt: &R,
     alloc: Global,
     gate: &G,
     cut: Cut,
     index: Index,
-    command: &IndexCommand,
+    waiting: &mut Vec<Doc<'a>>,
+    command: &'a IndexCommand,
     text: &mut Vec<u8>,
 ) -> Result<Index, NoMemory>
     requires { HasTerms command.now }
-    ensures after { IfOk result (λ after. after ≡ index_after index command.now) }
-    ensures reply { IfOk result (λ _. text.new.items ≡ text.old.items ++ index_reply index command.now) }
+    ensures after { IfOk result (λ next. with_docs next waiting.new.items ≡ index_after (with_docs index waiting.old.items) command.now) }
+    ensures reply { IfOk result (λ next. text.new.items ++ doc_lines next waiting.new.items ≡ (text.old.items ++ doc_lines index waiting.old.items) ++ index_reply (with_docs index waiting.old.items) command.now) }
 {
-    let hits = match command {
-        IndexCommand::Doc {
-            place: _,
-            i,
-            text: words,
-        } => return add_doc(rt, alloc, gate, cut, index, *i, words.items(), text),
-        IndexCommand::And { place: _, terms } => {
-            all_of(rt, alloc, gate, cut, &index, terms.items())?
-        }
-        IndexCommand::Or { place: _, terms } => {
-            any_of(rt, alloc, gate, cut, &index, terms.items())?
-        }
-        IndexCommand::Without { place: _, terms } => {
-            without(rt, alloc, gate, cut, &index, terms.items())?
-        }
-        IndexCommand::Top { place: _, i, term } => top(alloc, &index, *i, term.items())?,
-    };
-    docs_line(alloc, text, &hits)?;
+    if let IndexCommand::Doc {
+        place: _,
+        i,
+        text: words,
+    } = command
+    {
+        waiting.push(Doc {
+            doc: *i,
+            text: words.items(),
+        })?;
+        return Ok(index);
+    }
+    let index = settle(rt, alloc, gate, cut, index, waiting, text)?;
+    waiting.clear();
+    answer(rt, alloc, gate, cut, &index, command, text)?;
     Ok(index)
 }
 
 /// The replies to the commands, run in order on an index of no documents, which depend neither on the runtime nor on the gate
-/// nor on the cut.
+/// nor on the cut. Commands in a row that add documents are one batch, which forks where the cut allows it.
+#[tactic(auto, using(crate::proofs::Waiting::replies_more, crate::proofs::Waiting::replies_whole))]
 pub fn run_index<R: Threads + Sync, G: Gate>(
     rt: &R,
     alloc: Global,
@@ -91,9 +95,20 @@ pub fn run_index<R: Threads + Sync, G: Gate>(
     ensures { IfOk result (λ text. text.items ≡ replies index_reply index_after [] commands.now) }
 {
     let mut index = Index::new();
+    let mut waiting = Vec::new(alloc);
     let mut text = Vec::new(alloc);
     for command in commands {
-        index = run_command(rt, alloc, gate, cut, index, command, &mut text)?;
+        index = run_command(
+            rt,
+            alloc,
+            gate,
+            cut,
+            index,
+            &mut waiting,
+            command,
+            &mut text,
+        )?;
     }
+    let _index = settle(rt, alloc, gate, cut, index, &waiting, &mut text)?;
     Ok(text)
 }

@@ -5,17 +5,17 @@ use Rattle.std.specs.Ordering.{nat_cmp}
 use Rattle.map_model.specs.Entries.{IsIncreasing}
 use Rattle.map_model.specs.SetOperations.{difference}
 use Rattle.inverted_index.specs.Documents.{IsIndex, documents_of}
-use Rattle.inverted_index.specs.Merging.{Lists, common, joined, postings_at}
+use Rattle.inverted_index.specs.Merging.{Lists, common, common_of, joined, postings_at}
 use Rattle.inverted_index.specs.Queries.{Document, all_of, any_of, having, without}
 use Rattle.inverted_index.specs.Ranks.{AreLow}
-use Rattle.inverted_index.proofs.Gathering.{Rises, all_of-common, any_of-joined, having-postings, rises_at, without-difference}
+use Rattle.inverted_index.proofs.Gathering.{Rises, all_of-common, any_of-joined, common_from_first, having-postings, rises_at, without-difference}
 use Rattle.inverted_index.proofs.Ranks.{low_fits}
 
 module _ (D : List (ℕ × ℕ)) (P : Lists) (ds : List Document) (index : IsIndex D P) (view : documents_of D P ≡ ds) where
-  pub all_found : (terms : List (List ℕ)) (lists sorted slice : List (List (ℕ × ℕ))) (found : List (ℕ × ℕ)) → lists ≡ map (postings_at P) terms → IsPermutation lists sorted → slice ≡ sorted → found ≡ common D slice → IsIncreasing nat_cmp found → found ≡ all_of ds terms
+  pub all_found : (terms : List (List ℕ)) (lists sorted slice : List (List (ℕ × ℕ))) (found : List (ℕ × ℕ)) → lists ≡ map (postings_at P) terms → IsPermutation lists sorted → slice ≡ sorted → found ≡ common_of D slice → IsIncreasing nat_cmp found → found ≡ all_of ds terms
   all_found terms lists sorted slice found of moved lent has rises =
       let Moved : List (List (ℕ × ℕ)) → Type 0 = λ l. IsPermutation l sorted in
-      let is : found ≡ common D sorted = has ∙ ap (common D) lent in
+      let is : found ≡ common D sorted = has ∙ ap (common_of D) lent ∙ common_from_first D P index terms sorted (subst Moved of moved) in
       let Up : List (ℕ × ℕ) → Type 0 = λ m. IsIncreasing nat_cmp m in
       is ∙ all_of-common D P index terms sorted (subst Moved of moved) (subst Up is rises) ∙ ap (λ d. all_of d terms) view
 

@@ -1,22 +1,24 @@
 -- What several postings say of a document together.
 use Rattle.std.proofs.Common.{◌≡◌, ℕ, ◌+◌, ◌-◌, ◌^◌, ◌≤◌, Bool, true, false, not, cond, min, ◌&&◌, ◌||◌, List, [], ◌∷◌, Option, Some, None, refl, sym, ap, ap₂, ◌∙◌, map, arith}
-use Rattle.std.specs.List.{fold, sum_by, list_all, list_any, AllByRecursion}
+use Rattle.std.specs.List.{All, fold, sum_by, list_all, list_any, AllByRecursion}
 use Rattle.std.specs.List.Sorted.{IsPermutation}
 use Rattle.std.specs.Option.{unwrap_or, is_some, is_none}
 use Rattle.std.specs.Ordering.{nat_cmp}
 use Rattle.std.proofs.lemmas.Cmp.{nat_cmp_total}
 use Rattle.std.proofs.lemmas.List.Folds.{fold_stays, fold-map, list_all-map}
 use Rattle.std.proofs.lemmas.List.Sums.{sum_by-cons}
-use Rattle.std.proofs.lemmas.List.Sorted.{sum_by-IsPermutation, list_any-IsPermutation}
+use Rattle.std.proofs.lemmas.List.Elements.{All-from_recursion, All-head}
+use Rattle.std.proofs.lemmas.List.Sorted.{All-permutation, sum_by-IsPermutation, list_any-IsPermutation}
 use Rattle.map_model.specs.Entries.{IsIncreasing, lookup}
 use Rattle.map_model.specs.SetOperations.{difference, intersect, union}
 use Rattle.map_model.proofs.Differences.{IsIncreasing-difference, lookup-difference}
-use Rattle.map_model.proofs.Intersections.{met, lookup-intersect}
+use Rattle.map_model.proofs.Intersections.{IsIncreasing-intersect, met, lookup-intersect}
+use Rattle.map_model.proofs.Lookups.{equal_lookups}
 use Rattle.map_model.proofs.Unions.{united, lookup-union}
 use Rattle.map_model.proofs.NatKeys.{nat_exact}
 use Rattle.inverted_index.specs.Terms.{bytes_cmp}
 use Rattle.inverted_index.specs.Documents.{IsIndex, documents_of, terms_in}
-use Rattle.inverted_index.specs.Merging.{Lists, common, joined, postings_at, sat}
+use Rattle.inverted_index.specs.Merging.{Lists, common, common_of, joined, postings_at, sat}
 use Rattle.inverted_index.specs.Queries.{all_of, any_of, having, has, if_filled, inverted, total_in, weight_in, without}
 use Rattle.inverted_index.proofs.Documents.{lookup-terms_in, answered}
 
@@ -122,6 +124,35 @@ module _ (D : List (ℕ × ℕ)) (P : Lists) (index : IsIndex D P) where
     | None ↦ λ _ is. absurd (let bad : ◌≡◌ {A = Option ℕ} None (Some w) = is in cc)
     | Some m ↦ λ has is. (index.are_postings t m has).are_known q w is
   ] refl
+
+  -- postings are what known documents have in common with them
+  from_known : (t : List ℕ) → intersect nat_cmp sat D (postings_at P t) ≡ postings_at P t
+  from_known t = equal_lookups nat_cmp_total nat_exact (intersect nat_cmp sat D (postings_at P t)) (postings_at P t) (IsIncreasing-intersect nat_cmp sat D (postings_at P t) index.known_rise) (rises_at t).0 (λ q.
+      lookup-intersect nat_exact sat D (postings_at P t) q
+      ∙ at_known (lookup nat_cmp D q) (lookup nat_cmp (postings_at P t) q) (known_at t q) (index.zero_weights q) ((rises_at t).1 q))
+    where
+      at_known : (o p : Option ℕ) → ((w : ℕ) → p ≡ Some w → is_some o ≡ true) → ((w : ℕ) → o ≡ Some w → w ≡ 0) → ((w : ℕ) → p ≡ Some w → w ≤ limit) → met sat o p ≡ p
+      at_known None None known zero fit = refl
+      at_known None (Some w) known zero fit = absurd (let bad : false ≡ true = known w refl in cc)
+      at_known (Some v) None known zero fit = refl
+      at_known (Some v) (Some w) known zero fit =
+          let none : v ≡ 0 = zero v refl in
+          let low : w ≤ limit = fit w refl in
+          ap Some (omega arith)
+
+  abbrev IsKept : List (ℕ × ℕ) → Type 0
+  IsKept p = intersect nat_cmp sat D p ≡ p
+
+  all_kept : (terms : List (List ℕ)) → AllByRecursion IsKept (map (postings_at P) terms)
+  all_kept [] = tt
+  all_kept (t ∷ terms) = (from_known t, all_kept terms)
+
+  pub common_from_first : (terms : List (List ℕ)) (ps : List (List (ℕ × ℕ))) → IsPermutation (map (postings_at P) terms) ps → common_of D ps ≡ common D ps
+  common_from_first terms ps moved = first ps (All-permutation IsKept (map (postings_at P) terms) ps moved (All-from_recursion IsKept (map (postings_at P) terms) (all_kept terms)))
+    where
+      first : (qs : List (List (ℕ × ℕ))) → All IsKept qs → common_of D qs ≡ common D qs
+      first [] all = refl
+      first (q ∷ qs) all = ap (λ x. common x qs) (sym (All-head IsKept q qs all))
 
   -- what a document has of a term
   has_term : (q : ℕ) (t : List ℕ) → has t (q, terms_in P q) ≡ has_at q (postings_at P t)

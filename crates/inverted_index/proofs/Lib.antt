@@ -7,3 +7,7 @@ pub mod Tallies
 pub mod Texts
 pub mod Found
 pub mod Steps
+pub mod Batches
+pub mod Batched
+pub mod Contents
+pub mod Crosses

@@ -1,5 +1,5 @@
 -- A document that is added.
-use Rattle.std.proofs.Common.{◌≡◌, ℕ, ◌-◌, ◌^◌, ◌≤◌, Bool, true, false, cond, List, [], ◌∷◌, ◌++◌, Option, Some, None, length, refl, sym, ap, ap₂, ◌∙◌, subst}
+use Rattle.std.proofs.Common.{◌≡◌, ℕ, ◌-◌, ◌^◌, ◌≤◌, Bool, true, false, cond, List, [], ◌∷◌, ◌++◌, Option, Some, None, length, map, refl, sym, ap, ap₂, ◌∙◌, subst}
 use Rattle.std.specs.declared.cmp.Ordering.{Ordering}
 use Rattle.std.specs.declared.cmp.Ordering.TheVariants.{Less, Equal, Greater}
 use Rattle.std.specs.List.{filter}
@@ -16,14 +16,22 @@ use Rattle.map_model.proofs.Lookups.{equal_lookups, lookup-set}
 use Rattle.map_model.proofs.Splits.{IsIncreasing-set}
 use Rattle.map_model.proofs.Unions.{united, lookup-union, IsIncreasing-union}
 use Rattle.map_model.proofs.NatKeys.{nat_exact}
-use Rattle.map_model.specs.Contents.{Contents}
-use Rattle.inverted_index.specs.Added.{WithDoc}
+use Rattle.inverted_index.specs.Added.{outcome, with_doc}
+use Rattle.inverted_index.specs.declared.doc.Outcome.TheVariants as outcomes
+use Rattle.std.specs.Prelude.{if◌then◌else◌}
 use Rattle.inverted_index.specs.Terms.{bytes_cmp, weights_of}
 use Rattle.inverted_index.specs.Documents.{AreFit, IsIndex, IsPostings, documents_of, terms_in}
 use Rattle.inverted_index.specs.Queries.{Document, is_known}
-use Rattle.inverted_index.specs.Merging.{Lists, batch, merged, postings_at, single}
+use Rattle.inverted_index.specs.Merging.{Lists, merged, postings_at}
 use Rattle.inverted_index.proofs.Kept.{IsIncreasing-revalued, lookup-revalued}
 use Rattle.inverted_index.proofs.Documents.{lookup-terms_in, IsIncreasing-terms_in}
+
+-- postings of one document, and those of its terms
+abbrev pub single : ℕ → ℕ → List (ℕ × ℕ)
+single doc weight = (doc, weight) ∷ []
+
+abbrev pub batch : ℕ → List (List ℕ × ℕ) → Lists
+batch doc weights = map (λ e. (e.0, single doc e.1)) weights
 
 -- the postings of a term after the document, of those before and the document's weight, if there are any
 abbrev pub after_doc : ℕ → Option (List (ℕ × ℕ)) → Option ℕ → Option (List (ℕ × ℕ))
@@ -169,20 +177,15 @@ known-documents (e ∷ D) P doc =
 pub one_more : (doc : ℕ) (D : List (ℕ × ℕ)) (P : Lists) (W : List (List ℕ × ℕ)) (known : List (ℕ × ℕ)) (lists : Lists) → IsIndex D P → lookup nat_cmp D doc ≡ None → IsIncreasing bytes_cmp W → AreFit W → known ≡ set nat_cmp D doc 0 → lists ≡ union bytes_cmp merged P (batch doc W) → IsIndex known lists × (documents_of known lists ≡ set nat_cmp (documents_of D P) doc W)
 one_more doc D P W known lists index new rises fit knows has = rw (knows, has) (index_after doc D P W index new rises fit, documents_after doc D P W index new rises fit)
 
--- what adding a document answers
-pub added : (doc : ℕ) (text : List ℕ) (D : List (ℕ × ℕ)) (P : Lists) (ds : List Document) (W : List (List ℕ × ℕ)) (B : Lists) (known : List (ℕ × ℕ)) (lists : Lists) (terms : ℕ) → IsIndex D P → documents_of D P ≡ ds → lookup nat_cmp D doc ≡ None → known ≡ set nat_cmp D doc 0 → W ≡ weights_of text → IsIncreasing bytes_cmp W → AreFit W → B ≡ batch doc W → lists ≡ union bytes_cmp merged P B → terms ≡ length W
-    → IsIndex known lists × ((is_known ds doc ≡ false) × (documents_of known lists ≡ set nat_cmp ds doc (weights_of text)) × (terms ≡ length (weights_of text)))
-added doc text D P ds W B known lists terms index view new knows weighs rises fit batched has counted =
-    let all = one_more doc D P W known lists index new rises fit knows (has ∙ ap (union bytes_cmp merged P) batched) in
-    let unknown : is_known ds doc ≡ false = ap (λ d. is_known d doc) (sym view) ∙ known-documents D P doc ∙ ap is_some new in
-    let documents : documents_of known lists ≡ set nat_cmp ds doc (weights_of text) = all.1 ∙ ap₂ (λ d w. set nat_cmp d doc w) view weighs in
-    (all.0, (unknown, documents, counted ∙ ap length weighs))
+-- what is told of one document
+pub known_told : (ds : List Document) (doc : ℕ) (text : List ℕ) → outcomes.Known ≡ outcome ds doc text → is_known ds doc ≡ true
+known_told ds doc text = elim (is_known ds doc) as (λ b. outcomes.Known ≡ (if b then outcomes.Known else outcomes.New (length (weights_of text))) → b ≡ true) [
+  | true ↦ λ _. refl
+  | false ↦ λ bad. absurd (let no : outcomes.Known ≡ outcomes.New (length (weights_of text)) = bad in cc)
+]
 
-pub was_known : (doc : ℕ) (D : List (ℕ × ℕ)) (P : Lists) (ds : List Document) → documents_of D P ≡ ds → is_some (lookup nat_cmp D doc) ≡ true → is_known ds doc ≡ true
-was_known doc D P ds view known = ap (λ d. is_known d doc) (sym view) ∙ known-documents D P doc ∙ known
-
-pub with_none : (D : List (ℕ × ℕ)) (doc : ℕ) (o : Option (Contents ℕ ℕ)) → WithDoc D doc o → o ≡ None → is_some (lookup nat_cmp D doc) ≡ true
-with_none D doc o h is = let Is : Option (Contents ℕ ℕ) → Type 0 = λ x. WithDoc D doc x in subst Is is h
-
-pub with_some : (D : List (ℕ × ℕ)) (doc : ℕ) (o : Option (Contents ℕ ℕ)) (known : Contents ℕ ℕ) → WithDoc D doc o → o ≡ Some known → (lookup nat_cmp D doc ≡ None) × (known.entries ≡ set nat_cmp D doc 0)
-with_some D doc o known h is = let Is : Option (Contents ℕ ℕ) → Type 0 = λ x. WithDoc D doc x in subst Is is h
+pub new_told : (ds : List Document) (doc : ℕ) (text : List ℕ) (terms : ℕ) → outcomes.New terms ≡ outcome ds doc text → (is_known ds doc ≡ false) × (with_doc ds doc text ≡ set nat_cmp ds doc (weights_of text)) × (terms ≡ length (weights_of text))
+new_told ds doc text terms = elim (is_known ds doc) as (λ b. outcomes.New terms ≡ (if b then outcomes.Known else outcomes.New (length (weights_of text))) → (b ≡ false) × ((if b then ds else set nat_cmp ds doc (weights_of text)) ≡ set nat_cmp ds doc (weights_of text)) × (terms ≡ length (weights_of text))) [
+  | true ↦ λ bad. absurd (let no : outcomes.New terms ≡ outcomes.Known = bad in cc)
+  | false ↦ λ is. let same : outcomes.New terms ≡ outcomes.New (length (weights_of text)) = is in (refl, refl, cc)
+]

@@ -12,13 +12,12 @@ use Rattle.map_model.specs.Entries.{IsIncreasing, lookup}
 use Rattle.map_model.specs.Operations.{build, last_at}
 use Rattle.map_model.specs.SetOperations.{union}
 use Rattle.map_model.proofs.Lookups.{option_or-none}
-use Rattle.map_model.proofs.Operations.{IsIncreasing-build, build-increasing, build-is, last_at-cons, lookup-after_puts}
+use Rattle.map_model.proofs.Operations.{IsIncreasing-build, build-is, last_at-cons, lookup-after_puts}
 use Rattle.map_model.proofs.Unions.{IsIncreasing-union, united, lookup-union}
 use Rattle.inverted_index.specs.Terms.{bytes_cmp, tally, times}
 use Rattle.inverted_index.specs.Documents.{AreFit}
-use Rattle.inverted_index.specs.Merging.{batch, sat, single}
+use Rattle.inverted_index.specs.Merging.{sat}
 use Rattle.inverted_index.proofs.Gathering.{limit}
-use Rattle.inverted_index.proofs.Kept.{IsIncreasing-revalued}
 
 -- a number of times, absent for none
 abbrev counted : ℕ → Option ℕ
@@ -119,9 +118,6 @@ tally_fits terms low t w is =
     let same : times terms t ≡ w = counted-value (times terms t) w (sym (tally_counts terms t) ∙ is) in
     let fits : times terms t ≤ length terms = count_by-le-length (λ s. is_eq (bytes_cmp s t)) terms in
     omega arith
-
-pub batch_built : (doc : ℕ) (W : List (List ℕ × ℕ)) → IsIncreasing bytes_cmp W → build bytes_cmp (batch doc W) ≡ batch doc W
-batch_built doc W s = build-increasing nat_list_cmp_total exact_bytes (batch doc W) (IsIncreasing-revalued (single doc) bytes_cmp W s)
 
 pub rises_of : (W : List (List ℕ × ℕ)) (terms : List (List ℕ)) → W ≡ tally terms → IsIncreasing bytes_cmp W
 rises_of W terms is = let P : List (List ℕ × ℕ) → Type 0 = λ w. IsIncreasing bytes_cmp w in subst P (sym is) (tally_rises terms)

@@ -18,6 +18,11 @@ documents_of known postings = map (λ e. (e.0, terms_in postings e.0)) known
 abbrev pub AreFit : List (List ℕ × ℕ) → Type 0
 AreFit weights = (t : List ℕ) (w : ℕ) → lookup bytes_cmp weights t ≡ Some w → w ≤ 2 ^ 64 - 1
 
+-- a document's terms rise, with weights of 64 bits
+pub record IsLawful (d : ℕ × List (List ℕ × ℕ)) : Type 0 where
+  pub rises : IsIncreasing bytes_cmp d.1
+  pub fit : AreFit d.1
+
 -- at least one document, all of them known, with weights of 64 bits
 pub record IsPostings (known m : List (ℕ × ℕ)) : Type 0 where
   pub rises : IsIncreasing nat_cmp m

@@ -5,3 +5,4 @@ pub mod Ranks
 pub mod Faults
 pub mod Merging
 pub mod Added
+pub mod Batches

@@ -1,5 +1,5 @@
 -- Postings that are made, found and brought together.
-use Rattle.std.specs.Prelude.{ℕ, ◌+◌, ◌-◌, ◌^◌, List, [], ◌∷◌, map, min, unwrap_or}
+use Rattle.std.specs.Prelude.{ℕ, ◌+◌, ◌-◌, ◌^◌, List, [], ◌∷◌, min, unwrap_or}
 use Rattle.std.specs.List.{fold}
 use Rattle.std.specs.Ordering.{nat_cmp}
 use Rattle.map_model.specs.Entries.{lookup}
@@ -14,17 +14,9 @@ Lists = List (List ℕ × List (ℕ × ℕ))
 abbrev pub postings_at : Lists → List ℕ → List (ℕ × ℕ)
 postings_at lists term = unwrap_or (lookup bytes_cmp lists term) []
 
--- postings of one document
-abbrev pub single : ℕ → ℕ → List (ℕ × ℕ)
-single doc weight = (doc, weight) ∷ []
-
 -- the documents of either postings; those of both keep the first weight
 abbrev pub merged : List (ℕ × ℕ) → List (ℕ × ℕ) → List (ℕ × ℕ)
 merged a b = union nat_cmp (λ x y. x) a b
-
--- the postings of one document's terms
-abbrev pub batch : ℕ → List (List ℕ × ℕ) → Lists
-batch doc weights = map (λ e. (e.0, single doc e.1)) weights
 
 -- the saturating sum of two weights
 abbrev pub sat : ℕ → ℕ → ℕ
@@ -33,6 +25,11 @@ sat a b = min (a + b) (2 ^ 64 - 1)
 -- the documents that all lists have, with the sums of their weights there and in a
 abbrev pub common : List (ℕ × ℕ) → List (List (ℕ × ℕ)) → List (ℕ × ℕ)
 common a lists = fold (λ x p. intersect nat_cmp sat x p) a lists
+
+-- the documents that all lists have, with the sums of their weights; all known ones where there are no lists
+abbrev pub common_of : List (ℕ × ℕ) → List (List (ℕ × ℕ)) → List (ℕ × ℕ)
+common_of known [] = known
+common_of known (p ∷ lists) = common p lists
 
 -- the documents that one of the lists has, or a, with the sums of their weights
 abbrev pub joined : List (ℕ × ℕ) → List (List (ℕ × ℕ)) → List (ℕ × ℕ)

@@ -1,13 +1,17 @@
 //! Documents that are added.
-ghost use Rattle.std.specs.Prelude.{◌≡◌, ◌<◌, IfOk, is_some};
-ghost use Rattle.std.specs.Ordering.{nat_cmp};
-ghost use Rattle.map_model.specs.Entries.{lookup, set};
-ghost use Rattle.inverted_index.specs.Added.{IsAdded, WithDoc};
+ghost use Rattle.std.specs.Prelude.{◌≡◌, ◌<◌, ℕ, IfOk, List};
+ghost use Rattle.map_model.specs.SetOperations.{union};
+ghost use Rattle.inverted_index.specs.Added.{IsAdded, outcomes_of, with_docs};
+ghost use Rattle.inverted_index.specs.Batches.{IsGathered, all_knowing, marked};
+ghost use Rattle.inverted_index.specs.Merging.{merged};
+ghost use Rattle.inverted_index.specs.Terms.{bytes_cmp};
 
-use crate::index::Index;
+use crate::batch::{Gathered, gathered_all};
+use crate::doc::{AddedDocs, Doc, Outcome};
+use crate::index::{Index, Lists};
+use crate::marking::{Marked, mark_new};
 use crate::postings::{Merge, Weights};
-use crate::tally::{batch, weights_of};
-use aug_monoid::{NoMemory, Steps};
+use aug_monoid::{NoMemory, Share};
 use fork_join::{Cut, Gate};
 use std::alloc::Global;
 use std::marker::{Brand, Sync};
@@ -21,28 +25,69 @@ pub enum Added {
     New { index: Index, terms: u64 },
 }
 
-/// The known documents with one more, none where it is known.
-fn with_doc<C: Ledger>(
+// The known documents with those of a batch, and which of these are new.
+fn known_after<'a, C: Ledger>(
     alloc: Global,
     known: &Weights,
-    doc: u64,
+    docs: &[Doc<'a>],
     blank: Blank,
-) -> Result<Option<Weights>, NoMemory>
+) -> Result<(Weights, Vec<Marked<'a>>), NoMemory>
     requires name { blank.name ≡ C.name }
     requires parts { blank.parts ≡ C.parts }
     requires some { 0 < blank.parts }
-    ensures { IfOk result (λ after. WithDoc known.now.entries doc after) }
+    ensures after { IfOk result (λ r. r.0.entries ≡ all_knowing known.now.entries docs.now) }
+    ensures marks { IfOk result (λ r. r.1.items ≡ marked known.now.entries docs.now) }
 {
-    let mut steps = Steps::<C>::start(blank);
-    if known.get(alloc, &doc, &mut steps)?.is_some() {
-        return Ok(None);
-    }
-    Ok(Some(known.put(alloc, doc, 0, &mut steps)?))
+    let mut after = known.share(alloc)?;
+    let marks = mark_new::<C>(alloc, &mut after, docs, blank)?;
+    Ok((after, marks))
+}
+
+// Lists united with the postings of a batch, and what becomes of its documents.
+fn lists_after<R: Threads + Sync, G: Gate>(
+    rt: &R,
+    alloc: Global,
+    gate: &G,
+    cut: Cut,
+    lists: &Lists,
+    docs: &[Marked<'_>],
+) -> Result<Gathered, NoMemory>
+    ensures lists { IfOk result (λ out. (batch : List (List ℕ × List (ℕ × ℕ))) × IsGathered docs.now batch out.outcomes.items × (out.lists.entries ≡ union bytes_cmp merged lists.now.entries batch)) }
+{
+    let batch = gathered_all(rt, alloc, gate, cut, docs)?;
+    let lists = lists.union(rt, alloc, gate, cut, &batch.lists, &Merge)?;
+    Ok(Gathered {
+        lists,
+        outcomes: batch.outcomes,
+    })
 }
 
 impl Index {
+    /// Adds documents in order, each as `add_doc` adds one, in one union with the postings of them all. For n terms in all, in
+    /// documents that are new, it takes about n * log n work, and as much as the union of the terms with those of the index. Texts
+    /// are tallied in parts that fork where the cut allows it.
+    pub fn add_docs<R: Threads + Sync, G: Gate>(
+        &self,
+        rt: &R,
+        alloc: Global,
+        gate: &G,
+        cut: Cut,
+        docs: &[Doc<'_>],
+    ) -> Result<AddedDocs, NoMemory>
+        ensures index { IfOk result (λ added. added.index ≡ with_docs self.now docs.now) }
+        ensures outcomes { IfOk result (λ added. added.outcomes.items ≡ outcomes_of self.now docs.now) }
+    {
+        let (known, marks) = known_after::<Brand>(alloc, &self.known, docs, Blank::new(1))?;
+        let Gathered { lists, outcomes } = lists_after(rt, alloc, gate, cut, &self.lists, &marks)?;
+        Ok(AddedDocs {
+            index: Index { known, lists },
+            outcomes,
+        })
+    }
+
     /// Adds a document with the terms of a text, which are its longest runs of ASCII letters and digits, made small; the weight
     /// of a term is how often the text has it. A known document changes nothing.
+    #[tactic(auto, using(crate::proofs::OneMore::known_told, crate::proofs::OneMore::new_told))]
     pub fn add_doc<R: Threads + Sync, G: Gate>(
         &self,
         rt: &R,
@@ -54,15 +99,11 @@ impl Index {
     ) -> Result<Added, NoMemory>
         ensures { IfOk result (λ added. IsAdded self.now doc text.now added) }
     {
-        let Some(known) = with_doc::<Brand>(alloc, &self.known, doc, Blank::new(1))? else {
-            return Ok(Added::Known);
-        };
-        let weights = weights_of(alloc, text)?;
-        let batch = batch(rt, alloc, gate, cut, doc, &weights)?;
-        let lists = self.lists.union(rt, alloc, gate, cut, &batch, &Merge)?;
-        Ok(Added::New {
-            index: Index { known, lists },
-            terms: weights.len() as u64,
-        })
+        let docs = [Doc { doc, text }];
+        let AddedDocs { index, outcomes } = self.add_docs(rt, alloc, gate, cut, &docs)?;
+        match outcomes[0] {
+            Outcome::Known => Ok(Added::Known),
+            Outcome::New { terms } => Ok(Added::New { index, terms }),
+        }
     }
 }

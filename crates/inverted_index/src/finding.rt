@@ -2,7 +2,7 @@
 ghost use Rattle.std.specs.Prelude.{◌≡◌, ◌<◌, IfOk, IsPermutation, map, []};
 ghost use Rattle.std.specs.Ordering.{nat_cmp};
 ghost use Rattle.map_model.specs.Entries.{IsIncreasing};
-ghost use Rattle.inverted_index.specs.Merging.{common, joined, postings_at};
+ghost use Rattle.inverted_index.specs.Merging.{common, common_of, joined, postings_at};
 ghost use Rattle.inverted_index.specs.Queries.{hits_of};
 
 use crate::hit::Hit;
@@ -59,9 +59,29 @@ pub(crate) fn by_size(mut lists: Vec<Postings>) -> Result<Vec<Postings>, NoMemor
     Ok(lists)
 }
 
-/// The documents of a map that all lists have, with the sums of their weights.
+// The documents of a map that all lists have, with the sums of their weights there and in the map.
 #[tactic(auto, using(crate::proofs::Steps::common_more))]
-pub(crate) fn common<R: Threads + Sync, G: Gate>(
+fn common<R: Threads + Sync, G: Gate>(
+    rt: &R,
+    alloc: Global,
+    gate: &G,
+    cut: Cut,
+    start: &Weights,
+    lists: &[Postings],
+) -> Result<Weights, NoMemory>
+    ensures entries { IfOk result (λ found. found.entries ≡ common start.now.entries lists.now) }
+    ensures rises { IfOk result (λ found. IsIncreasing nat_cmp found.entries) }
+{
+    let mut found = start.share(alloc)?;
+    for list in lists {
+        found = found.intersect(rt, alloc, gate, cut, list.map(), &SatSum)?;
+    }
+    let _size = found.size();
+    Ok(found)
+}
+
+/// The documents that all lists have, with the sums of their weights; the known documents where there are no lists.
+pub(crate) fn common_of<R: Threads + Sync, G: Gate>(
     rt: &R,
     alloc: Global,
     gate: &G,
@@ -69,15 +89,13 @@ pub(crate) fn common<R: Threads + Sync, G: Gate>(
     known: &Weights,
     lists: &[Postings],
 ) -> Result<Weights, NoMemory>
-    ensures entries { IfOk result (λ found. found.entries ≡ common known.now.entries lists.now) }
+    ensures entries { IfOk result (λ found. found.entries ≡ common_of known.now.entries lists.now) }
     ensures rises { IfOk result (λ found. IsIncreasing nat_cmp found.entries) }
 {
-    let mut found = known.share(alloc)?;
-    for list in lists {
-        found = found.intersect(rt, alloc, gate, cut, list.map(), &SatSum)?;
+    match lists {
+        [] => common(rt, alloc, gate, cut, known, lists),
+        [first, rest @ ..] => common(rt, alloc, gate, cut, first.map(), rest),
     }
-    let _size = found.size();
-    Ok(found)
 }
 
 /// The documents that one of the lists has, with the sums of their weights.

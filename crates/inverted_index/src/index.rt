@@ -1,6 +1,9 @@
 //! The index, and what it lends.
-ghost use Rattle.std.specs.Prelude.{◌≡◌, ℕ, List, [], IfOk};
+ghost use Rattle.std.specs.Prelude.{◌≡◌, ℕ, List, [], IfOk, length};
+ghost use Rattle.std.specs.List.{AllByRecursion};
+ghost use Rattle.std.specs.Ordering.{nat_cmp};
 ghost use Rattle.map_model.specs.Entries.{IsIncreasing, lookup};
+ghost use Rattle.inverted_index.specs.Documents.{IsLawful};
 ghost use Rattle.inverted_index.specs.Queries.{inverted};
 ghost use Rattle.inverted_index.specs.Terms.{bytes_cmp};
 
@@ -50,6 +53,15 @@ impl Index {
             known: Weights::empty(),
             lists: Lists::empty(),
         }
+    }
+
+    /// How many documents there are.
+    pub fn size(&self) -> u64
+        ensures value { result ≡ length self.now }
+        ensures rises { IsIncreasing nat_cmp self.now }
+        ensures terms { AllByRecursion IsLawful self.now }
+    {
+        self.known.size()
     }
 
     /// Lends the map from the terms that documents have to their postings.

@@ -2,17 +2,24 @@
 #![tactic(auto)]
 
 mod adding;
+mod batch;
+mod cross;
+mod doc;
 mod finding;
 mod hit;
 mod index;
+mod marking;
 mod postings;
 mod queries;
 mod ranking;
+mod table;
 mod tally;
 mod term;
 mod text;
 
 pub use adding::Added;
+pub use cross::index_crosses;
+pub use doc::{AddedDocs, Doc, Outcome};
 pub use hit::Hit;
 pub use index::{Index, Lists};
 pub use postings::{Postings, Weights};

@@ -1,6 +1,8 @@
 //! Postings: documents with weights.
-ghost use Rattle.std.specs.Prelude.{◌≡◌, [], ◌∷◌, IfOk};
-ghost use Rattle.inverted_index.specs.Merging.{merged, single};
+ghost use Rattle.std.specs.Prelude.{◌≡◌, [], IfOk};
+ghost use Rattle.std.specs.Ordering.{nat_cmp};
+ghost use Rattle.map_model.specs.Operations.{build};
+ghost use Rattle.inverted_index.specs.Merging.{merged};
 
 use aug_map::PlainMap;
 use aug_monoid::{First, NoMemory, Resolve, Share, SumMax};
@@ -39,11 +41,11 @@ impl Postings {
         }
     }
 
-    /// Postings of one document.
-    pub(crate) fn single(alloc: Global, doc: u64, weight: u64) -> Result<Postings, NoMemory>
-        ensures { IfOk result (λ postings. postings ≡ single doc weight) }
+    /// Postings of documents with weights, a later weight of a document in place of an earlier one.
+    pub(crate) fn build(alloc: Global, pairs: &[(u64, u64)]) -> Result<Postings, NoMemory>
+        ensures { IfOk result (λ postings. postings ≡ build nat_cmp pairs.now) }
     {
-        let weights = Weights::single(alloc, doc, weight)?;
+        let weights = Weights::build_alone(alloc, pairs)?;
         Ok(Postings { weights })
     }
 

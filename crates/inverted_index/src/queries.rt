@@ -6,7 +6,7 @@ ghost use Rattle.map_model.specs.SetOperations.{difference};
 ghost use Rattle.inverted_index.specs.Merging.{postings_at};
 ghost use Rattle.inverted_index.specs.Queries.{all_of, any_of, hits_of, top, without};
 
-use crate::finding::{by_size, common, find_list, find_lists, hits_of, joined};
+use crate::finding::{by_size, common_of, find_list, find_lists, hits_of, joined};
 use crate::hit::Hit;
 use crate::index::{Index, Lists};
 use crate::postings::{Postings, Weights};
@@ -50,7 +50,7 @@ impl Index {
     {
         let lists = find_lists::<Brand>(alloc, &self.lists, terms, Blank::new(1))?;
         let sorted = by_size(lists)?;
-        let found = common(rt, alloc, gate, cut, &self.known, &sorted)?;
+        let found = common_of(rt, alloc, gate, cut, &self.known, &sorted)?;
         hits_of(alloc, &found)
     }
 

@@ -2,19 +2,13 @@
 ghost use Rattle.std.specs.Prelude.{◌≡◌, IfOk, [], ◌∷◌, length, ◌<◌, ◌^◌};
 ghost use Rattle.map_model.specs.Entries.{IsIncreasing};
 ghost use Rattle.inverted_index.specs.Documents.{AreFit};
-ghost use Rattle.inverted_index.specs.Merging.{batch};
 ghost use Rattle.inverted_index.specs.Terms.{bytes_cmp, tally, weights_of};
 
-use crate::index::Lists;
-use crate::postings::Postings;
 use crate::term::Term;
 use crate::text::terms_of;
 use aug_monoid::{NoMemory, SatSum, Share};
 use entry_lists::union_of;
-use fork_join::{Cut, Gate};
 use std::alloc::Global;
-use std::marker::Sync;
-use std::thread::Threads;
 
 /// A term that is there once.
 #[tactic(auto, using(crate::proofs::Tallies::tally_one))]
@@ -54,24 +48,4 @@ pub(crate) fn weights_of(alloc: Global, text: &[u8]) -> Result<Vec<(Term, u64)>,
     let terms = terms.as_slice();
     let _number = terms.len();
     tally(alloc, terms)
-}
-
-/// The postings of one document's terms.
-pub(crate) fn batch<R: Threads + Sync, G: Gate>(
-    rt: &R,
-    alloc: Global,
-    gate: &G,
-    cut: Cut,
-    doc: u64,
-    weights: &[(Term, u64)],
-) -> Result<Lists, NoMemory>
-    requires { IsIncreasing bytes_cmp weights.now }
-    ensures { IfOk result (λ lists. lists.entries ≡ batch doc weights.now) }
-{
-    let mut lists = Vec::with_capacity(alloc, weights.len())?;
-    for (term, weight) in weights {
-        let postings = Postings::single(alloc, doc, *weight)?;
-        lists.push((term.share(alloc)?, postings))?;
-    }
-    Lists::build(rt, alloc, gate, cut, &lists)
 }

@@ -1,0 +1,130 @@
+//! The postings of a batch of documents, gathered in parts.
+ghost use Rattle.std.specs.Prelude.{◌≡◌, ◌++◌, ℕ, IfOk, List, length, OnOk};
+ghost use Rattle.map_model.specs.Entries.{lookup};
+ghost use Rattle.std.specs.BTreeMap.{get};
+ghost use Rattle.fork_join.specs.Openings.{AreHalves};
+ghost use Rattle.inverted_index.specs.Batches.{AreParts, IsGathered, IsGatheredOf, Part, grown, outcome_of, weighed};
+ghost use Rattle.inverted_index.specs.Documents.{AreFit};
+ghost use Rattle.inverted_index.specs.Terms.{bytes_cmp};
+
+use crate::doc::Outcome;
+use crate::index::Lists;
+use crate::marking::Marked;
+use crate::postings::Merge;
+use crate::table::{Table, lists_of, push_doc};
+use crate::tally::weights_of;
+use aug_monoid::NoMemory;
+use fork_join::{Cut, Divide, Gate, Opened, divide};
+use std::alloc::Global;
+use std::collections::BTreeMap;
+use std::marker::Sync;
+use std::thread::Threads;
+
+/// The postings of some documents, and what becomes of each.
+#[derive(Drop)]
+pub(crate) struct Gathered {
+    pub(crate) lists: Lists,
+    pub(crate) outcomes: Vec<Outcome>,
+}
+
+// Documents whose postings are gathered, at most `most` at once.
+#[derive(Drop)]
+struct Gathering {
+    most: usize,
+}
+
+impl<'a> Divide<&'a [Marked<'a>], (), Gathered> for Gathering {
+    ghost fits = { λ _ _. Unit {0} };
+
+    ghost answers = { λ _. IsGatheredOf };
+
+    ghost divides = { λ _. AreParts };
+
+    ghost extent = { λ _ part. length part.now };
+
+    fn size(&self, part: &&'a [Marked<'a>]) -> u64 {
+        part.len() as u64
+    }
+
+    fn open(
+        &self,
+        alloc: Global,
+        part: &'a [Marked<'a>],
+    ) -> Result<Opened<&'a [Marked<'a>], (), Gathered>, NoMemory> {
+        if part.len() > self.most && part.len() >= 2 {
+            let (front, back) = part.split_at(part.len() / 2);
+            return Ok(Opened::Split(front, (), back));
+        }
+        let gathered = gathered_part(alloc, part)?;
+        Ok(Opened::Done(gathered))
+    }
+
+    fn close(
+        &self,
+        alloc: Global,
+        left: Gathered,
+        middle: (),
+        right: Gathered,
+    ) -> Result<Gathered, NoMemory>
+        requires { AreHalves IsGatheredOf AreParts left middle right }
+        ensures { IfOk result (λ out. (part front back : Part) → AreParts part front middle back → IsGatheredOf front left → IsGatheredOf back right → IsGatheredOf part out) }
+    {
+        let lists = left.lists.union_alone(alloc, &right.lists, &Merge)?;
+        let mut outcomes = left.outcomes;
+        outcomes.extend_from_slice(&right.outcomes)?;
+        Ok(Gathered { lists, outcomes })
+    }
+}
+
+// Puts a document's terms into a table, if it is new.
+fn gather(alloc: Global, table: &mut Table, doc: &Marked<'_>) -> Result<Outcome, NoMemory>
+    ensures outcome { IfOk result (λ outcome. outcome ≡ outcome_of doc.now) }
+    ensures after { OnOk result ((t : List ℕ) → get bytes_cmp table.new t ≡ grown doc.now.doc (get bytes_cmp table.old t) (lookup bytes_cmp (weighed doc.now).1 t)) }
+    ensures fit { IfOk result (λ _. AreFit (weighed doc.now).1) }
+{
+    if !doc.is_new {
+        return Ok(Outcome::Known);
+    }
+    let weights = weights_of(alloc, doc.text)?;
+    push_doc(alloc, table, doc.doc, &weights)?;
+    Ok(Outcome::New {
+        terms: weights.len() as u64,
+    })
+}
+
+// The postings of documents, at once.
+#[tactic(auto, using(crate::proofs::Batches::table_more))]
+fn gathered_part(alloc: Global, docs: &[Marked<'_>]) -> Result<Gathered, NoMemory>
+    ensures { IfOk result (λ out. IsGathered docs.now out.lists.entries out.outcomes.items) }
+{
+    let mut table = BTreeMap::new(alloc);
+    let mut outcomes = Vec::with_capacity(alloc, docs.len())?;
+    for doc in docs {
+        outcomes.push(gather(alloc, &mut table, doc)?)?;
+    }
+    let lists = lists_of(alloc, table)?;
+    Ok(Gathered { lists, outcomes })
+}
+
+// How many documents at most are done at once, so that each worker has a part.
+fn most_at_once(cut: Cut, docs: usize) -> usize {
+    if cut.splits(docs as u64) {
+        docs.div_ceil(cut.workers as usize)
+    } else {
+        docs
+    }
+}
+
+/// The postings of those documents that are new, gathered in as many parts as there are workers, where the cut allows it.
+pub(crate) fn gathered_all<R: Threads + Sync, G: Gate>(
+    rt: &R,
+    alloc: Global,
+    gate: &G,
+    cut: Cut,
+    docs: &[Marked<'_>],
+) -> Result<Gathered, NoMemory>
+    ensures { IfOk result (λ out. IsGathered docs.now out.lists.entries out.outcomes.items) }
+{
+    let most = most_at_once(cut, docs.len());
+    divide(rt, alloc, gate, cut, &Gathering { most }, docs)
+}

@@ -1,0 +1,12 @@
+//! Indexes and terms cross threads.
+use crate::index::Index;
+use crate::term::Term;
+use std::marker::{Send, Sync};
+
+fn crosses<T: Send + Sync>(_value: &T) {}
+
+/// An index and terms are sent to and shared among threads.
+pub fn index_crosses(index: &Index, term: &Term) {
+    crosses(index);
+    crosses(term);
+}
