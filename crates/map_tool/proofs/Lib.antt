@@ -1,7 +1,5 @@
-pub mod MapFacts
 pub mod Counting
 pub mod Greatest
 pub mod Kept
 pub mod Numbered
 pub mod Overlaps
-pub mod Replies

@@ -1,8 +1,8 @@
 -- The most steps of the commands of the tool map that promise one.
 use Rattle.std.specs.Prelude.{ℕ, ◌+◌, ◌*◌, List, [], Option, Some, None, slice_index_or}
 use Rattle.map_model.specs.Contents.{Contents}
-use Rattle.map_tool.specs.declared.commands.MapCommand.{MapCommand}
-use Rattle.map_tool.specs.declared.commands.MapCommand.TheVariants as command
+use Rattle.map_records.specs.declared.commands.MapCommand.{MapCommand}
+use Rattle.map_records.specs.declared.commands.MapCommand.TheVariants as command
 
 -- the height of the map of a register
 abbrev pub height_of : List (Contents ℕ ℕ) → ℕ → ℕ

@@ -1,16 +1,16 @@
 -- What the commands of the tool map do to the registers, and what they reply.
-use Rattle.std.specs.Prelude.{◌≡◌, [], ◌∷◌, ◌++◌, ℕ, List, Option, Some, None, length, codes, if◌then◌else◌}
+use Rattle.std.specs.Prelude.{◌≡◌, [], ◌∷◌, ◌++◌, ℕ, List, Option, Some, None, Result, MatchResult, OnErr, OnOk, length, codes, if◌then◌else◌}
 use Rattle.std.specs.Ordering.{nat_cmp}
+use Rattle.map_model.specs.Contents.{Contents}
 use Rattle.map_model.specs.Entries.{above, below, drop_key, lookup, set}
 use Rattle.map_model.specs.Operations.{after, build, dels, puts}
 use Rattle.map_model.specs.Parts.{next, prev, rank, select, slice}
 use Rattle.map_model.specs.SetOperations.{difference, intersect, union}
 use Rattle.aug_monoid.specs.declared.totals.Totals.{Totals}
 use Rattle.script.specs.Lines.{line_of}
-use Rattle.map_tool.specs.declared.commands.MapCommand.{MapCommand}
-use Rattle.map_tool.specs.declared.commands.MapCommand.TheVariants as command
-use Rattle.map_tool.specs.declared.change.Change.{Change}
-use Rattle.map_tool.specs.Registers.{Registers, register, with_register}
+use Rattle.map_records.specs.declared.commands.MapCommand.{MapCommand}
+use Rattle.map_records.specs.declared.commands.MapCommand.TheVariants as command
+use Rattle.map_tool.specs.Registers.{Registers, maps_of, register, with_register}
 use Rattle.map_tool.specs.Values.{entries_of, numbers_of, overlaps, range_totals, resolved_by, totals_of, values_from, values_within}
 
 -- a register gets a map, and the reply is its size; or no register changes, and the reply is a line
@@ -33,6 +33,10 @@ totals_line t = line_of (codes "aug") (t.sum ∷ t.greatest ∷ [])
 
 abbrev pub list_line : List (ℕ × ℕ) → List ℕ
 list_line m = line_of (codes "list") (length m ∷ numbers_of m)
+
+-- a register gets one map behind another, unless they overlap
+abbrev pub cat : ℕ → List (ℕ × ℕ) → List (ℕ × ℕ) → Effect
+cat d a b = if overlaps a b then replies (line_of (codes "overlap") []) else changes d (a ++ b)
 
 -- what a command does, from the registers before it
 abbrev pub effect : Registers → MapCommand → Effect
@@ -57,8 +61,7 @@ effect rs (command.Mdel place d keys) = changes d (after nat_cmp (register rs d)
 effect rs (command.Union place d a b how) = changes d (union nat_cmp (resolved_by how) (register rs a) (register rs b))
 effect rs (command.Inter place d a b how) = changes d (intersect nat_cmp (resolved_by how) (register rs a) (register rs b))
 effect rs (command.Diff place d a b) = changes d (difference nat_cmp (register rs a) (register rs b))
-effect rs (command.Cat place d a b) =
-    if overlaps (register rs a) (register rs b) then replies (line_of (codes "overlap") []) else changes d (register rs a ++ register rs b)
+effect rs (command.Cat place d a b) = cat d (register rs a) (register rs b)
 effect rs (command.Below place d m k) = changes d (below nat_cmp (register rs m) k)
 effect rs (command.Above place d m k) = changes d (above nat_cmp (register rs m) k)
 effect rs (command.Slice place d m lo hi) = changes d (slice nat_cmp (register rs m) lo hi)
@@ -81,13 +84,9 @@ map_after rs c = registers_after rs (effect rs c)
 abbrev pub map_reply : Registers → MapCommand → List ℕ
 map_reply rs c = reply_of (effect rs c)
 
--- what a command does is this change of a register
-abbrev pub IsChange : Effect → Change → Type 0
-IsChange (changes d m) change = (change.d ≡ d) × (change.map.entries ≡ m)
-IsChange (replies text) change = ⊥
-
--- it is this change, or none, and then the reply was appended to a text
-abbrev pub IsEffect : Effect → Option Change → List ℕ → List ℕ → Type 0
-IsEffect e (Some change) old new = IsChange e change × (new ≡ old)
-IsEffect (changes d m) None old new = ⊥
-IsEffect (replies line) None old new = new ≡ old ++ line
+-- a call has this effect on registers and a text: it appends the reply, or is refused and leaves both as they were
+abbrev pub HasEffect : {E : Type 0} → Effect → Result (Unit {0}) E → List (Contents ℕ ℕ) → List (Contents ℕ ℕ) → List ℕ → List ℕ → Type 0
+HasEffect e result old new text grown =
+    MatchResult result (λ _. grown ≡ text ++ reply_of e) (λ _. grown ≡ text)
+    × OnOk result (maps_of new ≡ registers_after (maps_of old) e)
+    × OnErr result (new ≡ old)

@@ -1,5 +1,3 @@
-pub mod How
-pub mod MapRecords
 pub mod Registers
 pub mod Values
 pub mod Effects

@@ -6,8 +6,8 @@ use Rattle.map_model.specs.Fold.{fold_of, range_fold}
 use Rattle.aug_monoid.specs.Totals.{totals_base, totals_combine, totals_unit}
 use Rattle.aug_monoid.specs.declared.totals.Totals.{Totals}
 use Rattle.aug_monoid.specs.declared.pair64.Pair64.{Pair64}
-use Rattle.map_tool.specs.declared.how.How.{How}
-use Rattle.map_tool.specs.declared.how.How.TheVariants as how
+use Rattle.map_records.specs.declared.how.How.{How}
+use Rattle.map_records.specs.declared.how.How.TheVariants as how
 
 -- the saturating sum and the greatest of all values
 unfoldable pub totals_of : List (ℕ × ℕ) → Totals

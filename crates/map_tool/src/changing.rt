@@ -1,86 +1,146 @@
-//! Commands that change a register by one call on one map.
-ghost use Rattle.std.specs.Prelude.{◌≡◌, ◌<◌, [], length, IfOk};
+//! Commands that make a register a copy or a part of another one.
+ghost use Rattle.std.specs.Prelude.{◌≡◌, ◌<◌, [], IfOk};
 ghost use Rattle.std.specs.Ordering.{nat_cmp};
 ghost use Rattle.map_model.specs.Entries.{above, below};
 ghost use Rattle.map_model.specs.Parts.{slice};
-ghost use Rattle.map_tool.specs.Effects.{IsChange, effect};
+ghost use Rattle.map_tool.specs.Effects.{HasEffect, changes};
 ghost use Rattle.map_tool.specs.Registers.{maps_of, register};
-ghost use Rattle.map_tool.specs.Values.{values_from};
-ghost use Rattle.map_tool.specs.declared.commands.Kind.TheVariants as kind;
-ghost use Rattle.map_tool.specs.MapRecords.{HasRegisters, kind_of};
+ghost use Rattle.map_tool.specs.Values.{values_from, values_within};
 
-use crate::MapCommand;
-use crate::change::Change;
-use crate::registers::{Register, map_at};
-use crate::values::AtLeast;
+use crate::registers::{Register, Registers};
+use crate::values::{AtLeast, Within};
 use aug_monoid::{NoMemory, Share};
+use fork_join::{Cut, Gate};
 use std::alloc::Global;
+use std::marker::Sync;
+use std::thread::Threads;
 
-fn copy(alloc: Global, registers: &[Register], m: u64) -> Result<Register, NoMemory>
-    requires count { length registers.now ≡ 16 }
-    requires low { m < 16 }
-    ensures { IfOk result (λ map. map.entries ≡ register (maps_of registers.now) m) }
-{
-    map_at(registers, m).share(alloc)
-}
-
-fn below(alloc: Global, registers: &[Register], m: u64, k: u64) -> Result<Register, NoMemory>
-    requires count { length registers.now ≡ 16 }
-    requires low { m < 16 }
-    ensures { IfOk result (λ map. map.entries ≡ below nat_cmp (register (maps_of registers.now) m) k) }
-{
-    map_at(registers, m).below(alloc, &k)
-}
-
-fn above(alloc: Global, registers: &[Register], m: u64, k: u64) -> Result<Register, NoMemory>
-    requires count { length registers.now ≡ 16 }
-    requires low { m < 16 }
-    ensures { IfOk result (λ map. map.entries ≡ above nat_cmp (register (maps_of registers.now) m) k) }
-{
-    map_at(registers, m).above(alloc, &k)
-}
-
-fn slice(
+/// Makes a register what another one is.
+pub(crate) fn copy(
     alloc: Global,
-    registers: &[Register],
+    registers: &mut Registers,
+    d: u64,
+    m: u64,
+    text: &mut Vec<u8>,
+) -> Result<(), NoMemory>
+    requires { (d < 16) × (m < 16) }
+    ensures { HasEffect (changes d (register (maps_of registers.old) m)) result registers.old registers.new text.old.items text.new.items }
+{
+    let map = registers.map(m).share(alloc)?;
+    registers.store(d, map, text)
+}
+
+/// Makes a register empty.
+pub(crate) fn clear(registers: &mut Registers, d: u64, text: &mut Vec<u8>) -> Result<(), NoMemory>
+    requires { d < 16 }
+    ensures { HasEffect (changes d []) result registers.old registers.new text.old.items text.new.items }
+{
+    registers.store(d, Register::empty(), text)
+}
+
+/// Makes a register the entries of another one with keys less than `k`.
+pub(crate) fn below(
+    alloc: Global,
+    registers: &mut Registers,
+    d: u64,
+    m: u64,
+    k: u64,
+    text: &mut Vec<u8>,
+) -> Result<(), NoMemory>
+    requires { (d < 16) × (m < 16) }
+    ensures { HasEffect (changes d (below nat_cmp (register (maps_of registers.old) m) k)) result registers.old registers.new text.old.items text.new.items }
+{
+    let map = registers.map(m).below(alloc, &k)?;
+    registers.store(d, map, text)
+}
+
+/// Makes a register the entries of another one with keys greater than `k`.
+pub(crate) fn above(
+    alloc: Global,
+    registers: &mut Registers,
+    d: u64,
+    m: u64,
+    k: u64,
+    text: &mut Vec<u8>,
+) -> Result<(), NoMemory>
+    requires { (d < 16) × (m < 16) }
+    ensures { HasEffect (changes d (above nat_cmp (register (maps_of registers.old) m) k)) result registers.old registers.new text.old.items text.new.items }
+{
+    let map = registers.map(m).above(alloc, &k)?;
+    registers.store(d, map, text)
+}
+
+/// Makes a register the entries of another one with keys from `lo` to `hi`.
+pub(crate) fn slice(
+    alloc: Global,
+    registers: &mut Registers,
+    d: u64,
     m: u64,
     lo: u64,
     hi: u64,
-) -> Result<Register, NoMemory>
-    requires count { length registers.now ≡ 16 }
-    requires low { m < 16 }
-    ensures { IfOk result (λ map. map.entries ≡ slice nat_cmp (register (maps_of registers.now) m) lo hi) }
+    text: &mut Vec<u8>,
+) -> Result<(), NoMemory>
+    requires { (d < 16) × (m < 16) }
+    ensures { HasEffect (changes d (slice nat_cmp (register (maps_of registers.old) m) lo hi)) result registers.old registers.new text.old.items text.new.items }
 {
-    map_at(registers, m).slice(alloc, &lo, &hi)
+    let map = registers.map(m).slice(alloc, &lo, &hi)?;
+    registers.store(d, map, text)
 }
 
-fn at_least(alloc: Global, registers: &[Register], m: u64, least: u64) -> Result<Register, NoMemory>
-    requires count { length registers.now ≡ 16 }
-    requires low { m < 16 }
-    ensures { IfOk result (λ map. map.entries ≡ values_from (register (maps_of registers.now) m) least) }
+// The entries whose values are at least a number.
+fn values_from(alloc: Global, map: &Register, least: u64) -> Result<Register, NoMemory>
+    ensures { IfOk result (λ part. part.entries ≡ values_from map.now.entries least) }
 {
-    map_at(registers, m).aug_filter(alloc, &AtLeast { least })
+    map.aug_filter(alloc, &AtLeast { least })
 }
 
-/// What a command changes by one call on one map.
-pub(crate) fn change(
+/// Makes a register the entries of another one whose values are at least `t`.
+pub(crate) fn at_least(
     alloc: Global,
-    registers: &[Register],
-    command: &MapCommand,
-) -> Result<Change, NoMemory>
-    requires count { length registers.now ≡ 16 }
-    requires low { HasRegisters command.now }
-    requires changes { kind_of command.now ≡ kind.Change }
-    ensures { IfOk result (IsChange (effect (maps_of registers.now) command.now)) }
+    registers: &mut Registers,
+    d: u64,
+    m: u64,
+    t: u64,
+    text: &mut Vec<u8>,
+) -> Result<(), NoMemory>
+    requires { (d < 16) × (m < 16) }
+    ensures { HasEffect (changes d (values_from (register (maps_of registers.old) m) t)) result registers.old registers.new text.old.items text.new.items }
 {
-    let (d, map) = match command {
-        MapCommand::Copy { d, m, .. } => (*d, copy(alloc, registers, *m)?),
-        MapCommand::Clear { d, .. } => (*d, Register::empty()),
-        MapCommand::Below { d, m, k, .. } => (*d, below(alloc, registers, *m, *k)?),
-        MapCommand::Above { d, m, k, .. } => (*d, above(alloc, registers, *m, *k)?),
-        MapCommand::Slice { d, m, lo, hi, .. } => (*d, slice(alloc, registers, *m, *lo, *hi)?),
-        MapCommand::Atleast { d, m, t, .. } => (*d, at_least(alloc, registers, *m, *t)?),
-        _ => unreachable!(),
-    };
-    Ok(Change { d, map })
+    let map = values_from(alloc, registers.map(m), t)?;
+    registers.store(d, map, text)
+}
+
+// The entries whose values lie from one number to another.
+fn values_within<R: Threads + Sync, G: Gate>(
+    rt: &R,
+    alloc: Global,
+    gate: &G,
+    cut: Cut,
+    map: &Register,
+    lo: u64,
+    hi: u64,
+) -> Result<Register, NoMemory>
+    ensures { IfOk result (λ part. part.entries ≡ values_within map.now.entries lo hi) }
+{
+    map.filter(rt, alloc, gate, cut, &Within { lo, hi })
+}
+
+/// Makes a register the entries of another one whose values lie from `lo` to `hi`.
+pub(crate) fn filter<R: Threads + Sync, G: Gate>(
+    rt: &R,
+    alloc: Global,
+    gate: &G,
+    cut: Cut,
+    registers: &mut Registers,
+    d: u64,
+    m: u64,
+    lo: u64,
+    hi: u64,
+    text: &mut Vec<u8>,
+) -> Result<(), NoMemory>
+    requires { (d < 16) × (m < 16) }
+    ensures { HasEffect (changes d (values_within (register (maps_of registers.old) m) lo hi)) result registers.old registers.new text.old.items text.new.items }
+{
+    let map = values_within(rt, alloc, gate, cut, registers.map(m), lo, hi)?;
+    registers.store(d, map, text)
 }

@@ -1,160 +1,140 @@
-//! Commands that change a register by a call on whole maps, which may fork.
-ghost use Rattle.std.specs.Prelude.{◌≡◌, ◌<◌, ◌++◌, true, false, length, IfOk, IfSome, IfNone, MatchResult};
+//! Commands that change a register by many pairs or keys, or make it of two.
+ghost use Rattle.std.specs.Prelude.{◌≡◌, ◌<◌, ◌++◌, true, false, IfOk, IfSome, IfNone};
 ghost use Rattle.std.specs.Ordering.{nat_cmp};
 ghost use Rattle.map_model.specs.Operations.{after, build, dels, puts};
 ghost use Rattle.map_model.specs.SetOperations.{difference, intersect, union};
-ghost use Rattle.map_tool.specs.Effects.{IsEffect, effect};
+ghost use Rattle.map_tool.specs.Effects.{HasEffect, cat, changes};
 ghost use Rattle.map_tool.specs.Registers.{maps_of, register};
-ghost use Rattle.map_tool.specs.Values.{entries_of, overlaps, resolved_by, values_within};
-ghost use Rattle.map_tool.specs.declared.commands.Kind.TheVariants as kind;
-ghost use Rattle.map_tool.specs.MapRecords.{HasRegisters, kind_of};
+ghost use Rattle.map_tool.specs.Values.{entries_of, overlaps, resolved_by};
 
-use crate::change::Change;
 use crate::entries::entries_of;
-use crate::registers::{Register, map_at};
-use crate::values::{ByHow, Within};
-use crate::{How, MapCommand};
+use crate::registers::{Register, Registers};
+use crate::values::ByHow;
 use aug_monoid::{NoMemory, Pair64, Steps};
 use fork_join::{Cut, Gate};
+use map_records::How;
 use script::line;
 use std::alloc::Global;
 use std::marker::Sync;
 use std::sync::ledger::Ledger;
 use std::thread::Threads;
 
-fn build<R: Threads + Sync, G: Gate>(
+/// Makes a register what puts of pairs in order make of the empty map.
+pub(crate) fn build<R: Threads + Sync, G: Gate>(
     rt: &R,
     alloc: Global,
     gate: &G,
     cut: Cut,
-    pairs: &[Pair64],
-) -> Result<Register, NoMemory>
-    ensures { IfOk result (λ map. map.entries ≡ build nat_cmp (entries_of pairs.now)) }
-{
-    let entries = entries_of(alloc, pairs)?;
-    Register::build(rt, alloc, gate, cut, &entries)
-}
-
-fn put_all<R: Threads + Sync, G: Gate>(
-    rt: &R,
-    alloc: Global,
-    gate: &G,
-    cut: Cut,
-    registers: &[Register],
+    registers: &mut Registers,
     d: u64,
     pairs: &[Pair64],
-) -> Result<Register, NoMemory>
-    requires count { length registers.now ≡ 16 }
-    requires low { d < 16 }
-    ensures { IfOk result (λ map. map.entries ≡ after nat_cmp (register (maps_of registers.now) d) (puts (entries_of pairs.now))) }
+    text: &mut Vec<u8>,
+) -> Result<(), NoMemory>
+    requires { d < 16 }
+    ensures { HasEffect (changes d (build nat_cmp (entries_of pairs.now))) result registers.old registers.new text.old.items text.new.items }
 {
     let entries = entries_of(alloc, pairs)?;
-    map_at(registers, d).multi_put(rt, alloc, gate, cut, &entries)
+    let map = Register::build(rt, alloc, gate, cut, &entries)?;
+    registers.store(d, map, text)
 }
 
-fn del_all<R: Threads + Sync, G: Gate>(
+/// Puts pairs into a register in order.
+pub(crate) fn put_all<R: Threads + Sync, G: Gate>(
     rt: &R,
     alloc: Global,
     gate: &G,
     cut: Cut,
-    registers: &[Register],
+    registers: &mut Registers,
+    d: u64,
+    pairs: &[Pair64],
+    text: &mut Vec<u8>,
+) -> Result<(), NoMemory>
+    requires { d < 16 }
+    ensures { HasEffect (changes d (after nat_cmp (register (maps_of registers.old) d) (puts (entries_of pairs.now)))) result registers.old registers.new text.old.items text.new.items }
+{
+    let entries = entries_of(alloc, pairs)?;
+    let map = registers.map(d).multi_put(rt, alloc, gate, cut, &entries)?;
+    registers.store(d, map, text)
+}
+
+/// Removes keys from a register.
+pub(crate) fn del_all<R: Threads + Sync, G: Gate>(
+    rt: &R,
+    alloc: Global,
+    gate: &G,
+    cut: Cut,
+    registers: &mut Registers,
     d: u64,
     keys: &[u64],
-) -> Result<Register, NoMemory>
-    requires count { length registers.now ≡ 16 }
-    requires low { d < 16 }
-    ensures { IfOk result (λ map. map.entries ≡ after nat_cmp (register (maps_of registers.now) d) (dels keys.now)) }
+    text: &mut Vec<u8>,
+) -> Result<(), NoMemory>
+    requires { d < 16 }
+    ensures { HasEffect (changes d (after nat_cmp (register (maps_of registers.old) d) (dels keys.now))) result registers.old registers.new text.old.items text.new.items }
 {
-    map_at(registers, d).multi_del(rt, alloc, gate, cut, keys)
+    let map = registers.map(d).multi_del(rt, alloc, gate, cut, keys)?;
+    registers.store(d, map, text)
 }
 
-fn union<R: Threads + Sync, G: Gate>(
+/// Makes a register the union of two.
+pub(crate) fn union<R: Threads + Sync, G: Gate>(
     rt: &R,
     alloc: Global,
     gate: &G,
     cut: Cut,
-    registers: &[Register],
+    registers: &mut Registers,
+    d: u64,
     a: u64,
     b: u64,
     how: How,
-) -> Result<Register, NoMemory>
-    requires count { length registers.now ≡ 16 }
-    requires low { (a < 16) × (b < 16) }
-    ensures { IfOk result (λ map. map.entries ≡ union nat_cmp (resolved_by how) (register (maps_of registers.now) a) (register (maps_of registers.now) b)) }
+    text: &mut Vec<u8>,
+) -> Result<(), NoMemory>
+    requires { (d < 16) × (a < 16) × (b < 16) }
+    ensures { HasEffect (changes d (union nat_cmp (resolved_by how) (register (maps_of registers.old) a) (register (maps_of registers.old) b))) result registers.old registers.new text.old.items text.new.items }
 {
-    let other = map_at(registers, b);
-    map_at(registers, a).union(rt, alloc, gate, cut, other, &ByHow { how })
+    let (left, right) = (registers.map(a), registers.map(b));
+    let map = left.union(rt, alloc, gate, cut, right, &ByHow { how })?;
+    registers.store(d, map, text)
 }
 
-fn intersect<R: Threads + Sync, G: Gate>(
+/// Makes a register the intersection of two.
+pub(crate) fn intersect<R: Threads + Sync, G: Gate>(
     rt: &R,
     alloc: Global,
     gate: &G,
     cut: Cut,
-    registers: &[Register],
+    registers: &mut Registers,
+    d: u64,
     a: u64,
     b: u64,
     how: How,
-) -> Result<Register, NoMemory>
-    requires count { length registers.now ≡ 16 }
-    requires low { (a < 16) × (b < 16) }
-    ensures { IfOk result (λ map. map.entries ≡ intersect nat_cmp (resolved_by how) (register (maps_of registers.now) a) (register (maps_of registers.now) b)) }
+    text: &mut Vec<u8>,
+) -> Result<(), NoMemory>
+    requires { (d < 16) × (a < 16) × (b < 16) }
+    ensures { HasEffect (changes d (intersect nat_cmp (resolved_by how) (register (maps_of registers.old) a) (register (maps_of registers.old) b))) result registers.old registers.new text.old.items text.new.items }
 {
-    let other = map_at(registers, b);
-    map_at(registers, a).intersect(rt, alloc, gate, cut, other, &ByHow { how })
+    let (left, right) = (registers.map(a), registers.map(b));
+    let map = left.intersect(rt, alloc, gate, cut, right, &ByHow { how })?;
+    registers.store(d, map, text)
 }
 
-fn difference<R: Threads + Sync, G: Gate>(
+/// Makes a register the entries of `a` whose keys `b` hasn't.
+pub(crate) fn difference<R: Threads + Sync, G: Gate>(
     rt: &R,
     alloc: Global,
     gate: &G,
     cut: Cut,
-    registers: &[Register],
+    registers: &mut Registers,
+    d: u64,
     a: u64,
     b: u64,
-) -> Result<Register, NoMemory>
-    requires count { length registers.now ≡ 16 }
-    requires low { (a < 16) × (b < 16) }
-    ensures { IfOk result (λ map. map.entries ≡ difference nat_cmp (register (maps_of registers.now) a) (register (maps_of registers.now) b)) }
+    text: &mut Vec<u8>,
+) -> Result<(), NoMemory>
+    requires { (d < 16) × (a < 16) × (b < 16) }
+    ensures { HasEffect (changes d (difference nat_cmp (register (maps_of registers.old) a) (register (maps_of registers.old) b))) result registers.old registers.new text.old.items text.new.items }
 {
-    let other = map_at(registers, b);
-    map_at(registers, a).difference(rt, alloc, gate, cut, other)
-}
-
-fn filter<R: Threads + Sync, G: Gate>(
-    rt: &R,
-    alloc: Global,
-    gate: &G,
-    cut: Cut,
-    registers: &[Register],
-    m: u64,
-    lo: u64,
-    hi: u64,
-) -> Result<Register, NoMemory>
-    requires count { length registers.now ≡ 16 }
-    requires low { m < 16 }
-    ensures { IfOk result (λ map. map.entries ≡ values_within (register (maps_of registers.now) m) lo hi) }
-{
-    map_at(registers, m).filter(rt, alloc, gate, cut, &Within { lo, hi })
-}
-
-pub(crate) fn count<R: Threads + Sync, G: Gate>(
-    rt: &R,
-    alloc: Global,
-    gate: &G,
-    cut: Cut,
-    registers: &[Register],
-    m: u64,
-    lo: u64,
-    hi: u64,
-) -> Result<u64, NoMemory>
-    requires count { length registers.now ≡ 16 }
-    requires low { m < 16 }
-    ensures { IfOk result (λ n. n ≡ length (values_within (register (maps_of registers.now) m) lo hi)) }
-{
-    let map = map_at(registers, m);
-    let _few = map.size();
-    map.map_reduce(rt, alloc, gate, cut, &Within { lo, hi })
+    let (left, right) = (registers.map(a), registers.map(b));
+    let map = left.difference(rt, alloc, gate, cut, right)?;
+    registers.store(d, map, text)
 }
 
 // Whether both maps have entries, and the greatest key of `a` isn't less than the least key of `b`.
@@ -172,76 +152,39 @@ fn overlap(alloc: Global, a: &Register, b: &Register) -> Result<bool, NoMemory>
     })
 }
 
-/// The map of all entries of `a` and `b`, and none where they overlap.
+// All entries of two maps, and none where they overlap.
 fn joined<C: Ledger>(
     alloc: Global,
-    registers: &[Register],
-    a: u64,
-    b: u64,
+    a: &Register,
+    b: &Register,
     steps: &mut Steps<C>,
 ) -> Result<Option<Register>, NoMemory>
-    requires count { length registers.now ≡ 16 }
-    requires low { (a < 16) × (b < 16) }
-    ensures joined { IfOk result (λ map. IfSome map (λ m. (overlaps (register (maps_of registers.now) a) (register (maps_of registers.now) b) ≡ false) × (m.entries ≡ register (maps_of registers.now) a ++ register (maps_of registers.now) b))) }
-    ensures overlap { IfOk result (λ map. IfNone map (overlaps (register (maps_of registers.now) a) (register (maps_of registers.now) b) ≡ true)) }
+    ensures joined { IfOk result (λ map. IfSome map (λ m. (overlaps a.now.entries b.now.entries ≡ false) × (m.entries ≡ a.now.entries ++ b.now.entries))) }
+    ensures overlap { IfOk result (λ map. IfNone map (overlaps a.now.entries b.now.entries ≡ true)) }
 {
-    let left = map_at(registers, a);
-    let right = map_at(registers, b);
-    let _sizes = (left.size(), right.size());
-    if overlap(alloc, left, right)? {
+    let _sizes = (a.size(), b.size()); // for the proof alone
+    if overlap(alloc, a, b)? {
         return Ok(None);
     }
-    let map = Register::join2(alloc, left, right, steps)?;
+    let map = Register::join2(alloc, a, b, steps)?;
     Ok(Some(map))
 }
 
-/// What a command changes by a call on whole maps; nothing where two maps overlap, and then the reply is appended.
-pub(crate) fn combine<R: Threads + Sync, G: Gate, C: Ledger>(
-    rt: &R,
+/// Makes a register the entries of `a` followed by those of `b`, or replies that they overlap.
+pub(crate) fn cat<C: Ledger>(
     alloc: Global,
-    gate: &G,
-    cut: Cut,
-    registers: &[Register],
-    command: &MapCommand,
+    registers: &mut Registers,
+    d: u64,
+    a: u64,
+    b: u64,
     steps: &mut Steps<C>,
     text: &mut Vec<u8>,
-) -> Result<Option<Change>, NoMemory>
-    requires count { length registers.now ≡ 16 }
-    requires low { HasRegisters command.now }
-    requires combines { kind_of command.now ≡ kind.Combination }
-    ensures effect { MatchResult result (λ change. IsEffect (effect (maps_of registers.now) command.now) change text.old.items text.new.items) (λ _. text.new.items ≡ text.old.items) }
+) -> Result<(), NoMemory>
+    requires { (d < 16) × (a < 16) × (b < 16) }
+    ensures { HasEffect (cat d (register (maps_of registers.old) a) (register (maps_of registers.old) b)) result registers.old registers.new text.old.items text.new.items }
 {
-    let (d, map) = match command {
-        MapCommand::Build { d, pairs, .. } => (*d, build(rt, alloc, gate, cut, pairs.items())?),
-        MapCommand::Mput { d, pairs, .. } => {
-            let map = put_all(rt, alloc, gate, cut, registers, *d, pairs.items())?;
-            (*d, map)
-        }
-        MapCommand::Mdel { d, keys, .. } => {
-            let map = del_all(rt, alloc, gate, cut, registers, *d, keys.items())?;
-            (*d, map)
-        }
-        MapCommand::Union { d, a, b, how, .. } => {
-            (*d, union(rt, alloc, gate, cut, registers, *a, *b, *how)?)
-        }
-        MapCommand::Inter { d, a, b, how, .. } => {
-            let map = intersect(rt, alloc, gate, cut, registers, *a, *b, *how)?;
-            (*d, map)
-        }
-        MapCommand::Diff { d, a, b, .. } => {
-            (*d, difference(rt, alloc, gate, cut, registers, *a, *b)?)
-        }
-        MapCommand::Filter { d, m, lo, hi, .. } => {
-            (*d, filter(rt, alloc, gate, cut, registers, *m, *lo, *hi)?)
-        }
-        MapCommand::Cat { d, a, b, .. } => match joined(alloc, registers, *a, *b, steps)? {
-            Some(map) => (*d, map),
-            None => {
-                line(text, "overlap", &[])?;
-                return Ok(None);
-            }
-        },
-        _ => unreachable!(),
-    };
-    Ok(Some(Change { d, map }))
+    match joined(alloc, registers.map(a), registers.map(b), steps)? {
+        Some(map) => registers.store(d, map, text),
+        None => line(text, "overlap", &[]),
+    }
 }

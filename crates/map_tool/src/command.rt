@@ -1,112 +1,88 @@
 //! Commands of the tool map, one and many.
-ghost use Rattle.std.specs.Prelude.{◌≡◌, ◌≤◌, ◌<◌, ◌+◌, ◌++◌, length, IfOk, IfSome, MatchResult, OnErr, OnOk};
+ghost use Rattle.std.specs.Prelude.{◌≡◌, ◌≤◌, ◌<◌, ◌+◌, ◌++◌, IfOk, IfSome, MatchResult, OnErr, OnOk};
 ghost use Rattle.std.specs.List.{AllByRecursion};
+ghost use Rattle.map_records.specs.MapRecords.{HasRegisters};
 ghost use Rattle.map_tool.specs.Bounds.{most_steps};
-ghost use Rattle.map_tool.specs.Effects.{IsEffect, effect, map_after, map_reply};
+ghost use Rattle.map_tool.specs.Effects.{map_after, map_reply};
 ghost use Rattle.map_tool.specs.Registers.{empty_registers, maps_of};
-ghost use Rattle.map_tool.specs.declared.commands.Kind.TheVariants as kind;
-ghost use Rattle.map_tool.specs.MapRecords.{HasRegisters, kind_of};
 ghost use Rattle.script.specs.Replies.{replies};
 
-use crate::MapCommand;
-use crate::asking::answer;
-use crate::change::Change;
-use crate::changing::change;
-use crate::combining::combine;
-use crate::commands::{Kind, kind_of};
-use crate::registers::{Register, empty_registers, store};
-use crate::replacing::replace;
+use crate::asking::{count, fold, get, greatest, list, next, prev, rank, select, size, sum};
+use crate::changing::{above, at_least, below, clear, copy, filter, slice};
+use crate::combining::{build, cat, del_all, difference, intersect, put_all, union};
+use crate::registers::Registers;
 use aug_monoid::{NoMemory, Steps};
 use fork_join::{Cut, Gate};
-use script::line;
+use map_records::MapCommand;
 use std::alloc::Global;
 use std::marker::{Brand, Sync};
 use std::sync::ledger::{Blank, Ledger};
 use std::thread::Threads;
 
-// What a command that sets or removes no single entry changes; where it changes nothing, its reply is appended.
-fn effect_of<R: Threads + Sync, G: Gate, C: Ledger>(
-    rt: &R,
-    alloc: Global,
-    gate: &G,
-    cut: Cut,
-    registers: &[Register],
-    command: &MapCommand,
-    steps: &mut Steps<C>,
-    text: &mut Vec<u8>,
-) -> Result<Option<Change>, NoMemory>
-    requires count { length registers.now ≡ 16 }
-    requires low { HasRegisters command.now }
-    requires other { kind_of command.now ≡ kind.Entry → ⊥ }
-    ensures effect { MatchResult result (λ change. IsEffect (effect (maps_of registers.now) command.now) change text.old.items text.new.items) (λ _. text.new.items ≡ text.old.items) }
-    ensures cost { IfSome (most_steps registers.now command.now) (λ most. steps.new ≤ steps.old + most) }
-{
-    match kind_of(command) {
-        Kind::Question => {
-            answer(rt, alloc, gate, cut, registers, command, steps, text)?;
-            Ok(None)
-        }
-        Kind::Entry => unreachable!(),
-        Kind::Change => Ok(Some(change(alloc, registers, command)?)),
-        Kind::Combination => combine(rt, alloc, gate, cut, registers, command, steps, text),
-    }
-}
-
-// Runs one command, and appends its reply. A refusal leaves the registers and the text as they were.
-fn run_command<R: Threads + Sync, G: Gate, C: Ledger>(
-    rt: &R,
-    alloc: Global,
-    gate: &G,
-    cut: Cut,
-    registers: &mut [Register],
-    command: &MapCommand,
-    steps: &mut Steps<C>,
-    text: &mut Vec<u8>,
-) -> Result<(), NoMemory>
-    requires count { length registers.old ≡ 16 }
-    requires low { HasRegisters command.now }
-    ensures reply { MatchResult result (λ _. text.new.items ≡ text.old.items ++ map_reply (maps_of registers.old) command.now) (λ _. text.new.items ≡ text.old.items) }
-    ensures after { OnOk result (maps_of registers.new ≡ map_after (maps_of registers.old) command.now) }
-    ensures refused { OnErr result (registers.new ≡ registers.old) }
-    ensures count { length registers.new ≡ 16 }
-    ensures cost { IfSome (most_steps registers.old command.now) (λ most. steps.new ≤ steps.old + most) }
-{
-    if kind_of(command) == Kind::Entry {
-        return replace(alloc, registers, command, steps, text);
-    }
-    match effect_of(rt, alloc, gate, cut, registers, command, steps, text)? {
-        None => Ok(()),
-        Some(Change { d, map }) => {
-            line(text, "ok", &[map.size()])?;
-            store(registers, d, map);
-            Ok(())
-        }
-    }
-}
-
-/// Runs one command of the tool map on sixteen registers, and answers its reply. `get` takes at most the steps of a look-up in its
-/// register, `put` and `del` those of a change of one entry, `sum` those of a range fold, and `fold` none. A refusal, which is only
-/// for want of memory, leaves the registers as they were.
+/// Runs one command of the tool map, and appends its reply to a text. `get` takes at most the steps of a look-up in its register,
+/// `put` and `del` those of a change of one entry, `sum` those of a range fold, and `fold` none. A refusal, which is only for want
+/// of memory, leaves the registers and the text as they were.
 pub fn map_command<R: Threads + Sync, G: Gate, C: Ledger>(
     rt: &R,
     alloc: Global,
     gate: &G,
     cut: Cut,
-    registers: &mut [Register],
+    registers: &mut Registers,
     command: &MapCommand,
     steps: &mut Steps<C>,
-) -> Result<Vec<u8>, NoMemory>
-    requires count { length registers.old ≡ 16 }
-    requires low { HasRegisters command.now }
-    ensures reply { IfOk result (λ text. text.items ≡ map_reply (maps_of registers.old) command.now) }
+    text: &mut Vec<u8>,
+) -> Result<(), NoMemory>
+    requires { HasRegisters command.now }
+    ensures reply { MatchResult result (λ _. text.new.items ≡ text.old.items ++ map_reply (maps_of registers.old) command.now) (λ _. text.new.items ≡ text.old.items) }
     ensures after { OnOk result (maps_of registers.new ≡ map_after (maps_of registers.old) command.now) }
     ensures refused { OnErr result (registers.new ≡ registers.old) }
-    ensures count { length registers.new ≡ 16 }
     ensures cost { IfSome (most_steps registers.old command.now) (λ most. steps.new ≤ steps.old + most) }
 {
-    let mut text = Vec::new(alloc);
-    run_command(rt, alloc, gate, cut, registers, command, steps, &mut text)?;
-    Ok(text)
+    match command {
+        MapCommand::Put { d, k, v, .. } => registers.put(alloc, *d, *k, *v, steps, text),
+        MapCommand::Del { d, k, .. } => registers.del(alloc, *d, *k, steps, text),
+        MapCommand::Get { m, k, .. } => get(alloc, registers.map(*m), *k, steps, text),
+        MapCommand::Size { m, .. } => size(registers.map(*m), text),
+        MapCommand::Sum { m, lo, hi, .. } => sum(alloc, registers.map(*m), *lo, *hi, steps, text),
+        MapCommand::Fold { m, .. } => fold(registers.map(*m), text),
+        MapCommand::Max { m, lo, hi, .. } => greatest(alloc, registers.map(*m), *lo, *hi, text),
+        MapCommand::Rank { m, k, .. } => rank(registers.map(*m), *k, steps, text),
+        MapCommand::Select { m, i, .. } => select(alloc, registers.map(*m), *i, text),
+        MapCommand::Next { m, k, .. } => next(alloc, registers.map(*m), *k, steps, text),
+        MapCommand::Prev { m, k, .. } => prev(alloc, registers.map(*m), *k, steps, text),
+        MapCommand::List { m, lo, hi, .. } => list(alloc, registers.map(*m), *lo, *hi, text),
+        MapCommand::Count { m, lo, hi, .. } => {
+            count(rt, alloc, gate, cut, registers.map(*m), *lo, *hi, text)
+        }
+        MapCommand::Copy { d, m, .. } => copy(alloc, registers, *d, *m, text),
+        MapCommand::Clear { d, .. } => clear(registers, *d, text),
+        MapCommand::Build { d, pairs, .. } => {
+            build(rt, alloc, gate, cut, registers, *d, pairs.items(), text)
+        }
+        MapCommand::Mput { d, pairs, .. } => {
+            put_all(rt, alloc, gate, cut, registers, *d, pairs.items(), text)
+        }
+        MapCommand::Mdel { d, keys, .. } => {
+            del_all(rt, alloc, gate, cut, registers, *d, keys.items(), text)
+        }
+        MapCommand::Union { d, a, b, how, .. } => {
+            union(rt, alloc, gate, cut, registers, *d, *a, *b, *how, text)
+        }
+        MapCommand::Inter { d, a, b, how, .. } => {
+            intersect(rt, alloc, gate, cut, registers, *d, *a, *b, *how, text)
+        }
+        MapCommand::Diff { d, a, b, .. } => {
+            difference(rt, alloc, gate, cut, registers, *d, *a, *b, text)
+        }
+        MapCommand::Cat { d, a, b, .. } => cat(alloc, registers, *d, *a, *b, steps, text),
+        MapCommand::Below { d, m, k, .. } => below(alloc, registers, *d, *m, *k, text),
+        MapCommand::Above { d, m, k, .. } => above(alloc, registers, *d, *m, *k, text),
+        MapCommand::Slice { d, m, lo, hi, .. } => slice(alloc, registers, *d, *m, *lo, *hi, text),
+        MapCommand::Atleast { d, m, t, .. } => at_least(alloc, registers, *d, *m, *t, text),
+        MapCommand::Filter { d, m, lo, hi, .. } => {
+            filter(rt, alloc, gate, cut, registers, *d, *m, *lo, *hi, text)
+        }
+    }
 }
 
 // Runs commands in order, and appends their replies to one text.
@@ -115,22 +91,30 @@ fn run_all<R: Threads + Sync, G: Gate, C: Ledger>(
     alloc: Global,
     gate: &G,
     cut: Cut,
-    registers: &mut [Register],
     commands: &[MapCommand],
     steps: &mut Steps<C>,
 ) -> Result<Vec<u8>, NoMemory>
-    requires count { length registers.old ≡ 16 }
-    requires low { AllByRecursion HasRegisters commands.now }
-    ensures { IfOk result (λ text. text.items ≡ replies map_reply map_after (maps_of registers.old) commands.now) }
+    requires { AllByRecursion HasRegisters commands.now }
+    ensures { IfOk result (λ text. text.items ≡ replies map_reply map_after empty_registers commands.now) }
 {
+    let mut registers = Registers::empty(alloc)?;
     let mut text = Vec::new(alloc);
     for command in commands {
-        run_command(rt, alloc, gate, cut, registers, command, steps, &mut text)?;
+        map_command(
+            rt,
+            alloc,
+            gate,
+            cut,
+            &mut registers,
+            command,
+            steps,
+            &mut text,
+        )?;
     }
     Ok(text)
 }
 
-// Runs commands on empty registers, and counts no steps.
+// The same, with steps that begin with a blank.
 fn run_counted<R: Threads + Sync, G: Gate, C: Ledger>(
     rt: &R,
     alloc: Global,
@@ -139,15 +123,14 @@ fn run_counted<R: Threads + Sync, G: Gate, C: Ledger>(
     commands: &[MapCommand],
     blank: Blank,
 ) -> Result<Vec<u8>, NoMemory>
-    requires low { AllByRecursion HasRegisters commands.now }
+    requires registers { AllByRecursion HasRegisters commands.now }
     requires name { blank.name ≡ C.name }
     requires parts { blank.parts ≡ C.parts }
     requires some { 0 < blank.parts }
     ensures { IfOk result (λ text. text.items ≡ replies map_reply map_after empty_registers commands.now) }
 {
-    let mut registers = empty_registers(alloc)?;
     let mut steps = Steps::<C>::start(blank);
-    run_all(rt, alloc, gate, cut, &mut registers, commands, &mut steps)
+    run_all(rt, alloc, gate, cut, commands, &mut steps)
 }
 
 /// The replies to commands of the tool map, run in order from empty registers. They depend neither on the runtime nor on the gate

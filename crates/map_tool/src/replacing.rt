@@ -1,16 +1,12 @@
 //! Commands that set or remove one entry of a register, in place.
-ghost use Rattle.std.specs.Prelude.{◌≡◌, ◌+◌, ◌<◌, ◌≤◌, ◌++◌, ◌∷◌, [], codes, length, vec_capacity, IfSome, MatchResult, OnErr, OnOk};
+ghost use Rattle.std.specs.Prelude.{◌≡◌, ◌+◌, ◌<◌, ◌≤◌, ◌++◌, ◌∷◌, [], codes, length, vec_capacity, MatchResult, OnErr, OnOk};
 ghost use Rattle.std.specs.Ordering.{nat_cmp};
 ghost use Rattle.map_model.specs.Entries.{drop_key, set};
 ghost use Rattle.script.specs.Lines.{line_of};
-ghost use Rattle.map_tool.specs.MapRecords.{HasRegisters, kind_of};
-ghost use Rattle.map_tool.specs.Bounds.{change_steps, height_of, most_steps};
-ghost use Rattle.map_tool.specs.Effects.{map_after, map_reply};
+ghost use Rattle.map_tool.specs.Bounds.{change_steps, height_of};
 ghost use Rattle.map_tool.specs.Registers.{maps_of, register, with_register};
-ghost use Rattle.map_tool.specs.declared.commands.Kind.TheVariants as kind;
 
-use crate::MapCommand;
-use crate::registers::Register;
+use crate::registers::{Register, Registers};
 use aug_monoid::{NoMemory, Steps};
 use script::line;
 use std::alloc::Global;
@@ -68,65 +64,41 @@ fn del_and_reply<C: Ledger>(
     Ok(())
 }
 
-fn put<C: Ledger>(
-    alloc: Global,
-    registers: &mut [Register],
-    d: u64,
-    k: u64,
-    v: u64,
-    steps: &mut Steps<C>,
-    text: &mut Vec<u8>,
-) -> Result<(), NoMemory>
-    requires count { length registers.old ≡ 16 }
-    requires low { d < 16 }
-    ensures reply { MatchResult result (λ _. text.new.items ≡ text.old.items ++ line_of (codes "ok") (length (set nat_cmp (register (maps_of registers.old) d) k v) ∷ [])) (λ _. text.new.items ≡ text.old.items) }
-    ensures after { OnOk result (maps_of registers.new ≡ with_register (maps_of registers.old) d (set nat_cmp (register (maps_of registers.old) d) k v)) }
-    ensures refused { OnErr result (registers.new ≡ registers.old) }
-    ensures count { length registers.new ≡ 16 }
-    ensures cost { steps.new ≤ steps.old + change_steps (height_of registers.old d) }
-{
-    put_and_reply(alloc, &mut registers[d as usize], k, v, steps, text)
-}
+impl Registers {
+    /// Sets a key of a register to a value in place, and appends the reply. A refusal leaves the registers and the text as they were.
+    pub(crate) fn put<C: Ledger>(
+        &mut self,
+        alloc: Global,
+        number: u64,
+        k: u64,
+        v: u64,
+        steps: &mut Steps<C>,
+        text: &mut Vec<u8>,
+    ) -> Result<(), NoMemory>
+        requires { number < 16 }
+        ensures reply { MatchResult result (λ _. text.new.items ≡ text.old.items ++ line_of (codes "ok") (length (set nat_cmp (register (maps_of self.old) number) k v) ∷ [])) (λ _. text.new.items ≡ text.old.items) }
+        ensures after { OnOk result (maps_of self.new ≡ with_register (maps_of self.old) number (set nat_cmp (register (maps_of self.old) number) k v)) }
+        ensures refused { OnErr result (self.new ≡ self.old) }
+        ensures cost { steps.new ≤ steps.old + change_steps (height_of self.old number) }
+    {
+        put_and_reply(alloc, &mut self.maps[number as usize], k, v, steps, text)
+    }
 
-fn del<C: Ledger>(
-    alloc: Global,
-    registers: &mut [Register],
-    d: u64,
-    k: u64,
-    steps: &mut Steps<C>,
-    text: &mut Vec<u8>,
-) -> Result<(), NoMemory>
-    requires count { length registers.old ≡ 16 }
-    requires low { d < 16 }
-    ensures reply { MatchResult result (λ _. text.new.items ≡ text.old.items ++ line_of (codes "ok") (length (drop_key nat_cmp (register (maps_of registers.old) d) k) ∷ [])) (λ _. text.new.items ≡ text.old.items) }
-    ensures after { OnOk result (maps_of registers.new ≡ with_register (maps_of registers.old) d (drop_key nat_cmp (register (maps_of registers.old) d) k)) }
-    ensures refused { OnErr result (registers.new ≡ registers.old) }
-    ensures count { length registers.new ≡ 16 }
-    ensures cost { steps.new ≤ steps.old + change_steps (height_of registers.old d) }
-{
-    del_and_reply(alloc, &mut registers[d as usize], k, steps, text)
-}
-
-/// Sets or removes one entry of a register in place, and appends the reply. A refusal leaves the registers and the text as they were.
-pub(crate) fn replace<C: Ledger>(
-    alloc: Global,
-    registers: &mut [Register],
-    command: &MapCommand,
-    steps: &mut Steps<C>,
-    text: &mut Vec<u8>,
-) -> Result<(), NoMemory>
-    requires count { length registers.old ≡ 16 }
-    requires low { HasRegisters command.now }
-    requires kind { kind_of command.now ≡ kind.Entry }
-    ensures reply { MatchResult result (λ _. text.new.items ≡ text.old.items ++ map_reply (maps_of registers.old) command.now) (λ _. text.new.items ≡ text.old.items) }
-    ensures after { OnOk result (maps_of registers.new ≡ map_after (maps_of registers.old) command.now) }
-    ensures refused { OnErr result (registers.new ≡ registers.old) }
-    ensures count { length registers.new ≡ 16 }
-    ensures cost { IfSome (most_steps registers.old command.now) (λ most. steps.new ≤ steps.old + most) }
-{
-    match command {
-        MapCommand::Put { d, k, v, .. } => put(alloc, registers, *d, *k, *v, steps, text),
-        MapCommand::Del { d, k, .. } => del(alloc, registers, *d, *k, steps, text),
-        _ => unreachable!(),
+    /// Removes a key from a register, as `put` sets one.
+    pub(crate) fn del<C: Ledger>(
+        &mut self,
+        alloc: Global,
+        number: u64,
+        k: u64,
+        steps: &mut Steps<C>,
+        text: &mut Vec<u8>,
+    ) -> Result<(), NoMemory>
+        requires { number < 16 }
+        ensures reply { MatchResult result (λ _. text.new.items ≡ text.old.items ++ line_of (codes "ok") (length (drop_key nat_cmp (register (maps_of self.old) number) k) ∷ [])) (λ _. text.new.items ≡ text.old.items) }
+        ensures after { OnOk result (maps_of self.new ≡ with_register (maps_of self.old) number (drop_key nat_cmp (register (maps_of self.old) number) k)) }
+        ensures refused { OnErr result (self.new ≡ self.old) }
+        ensures cost { steps.new ≤ steps.old + change_steps (height_of self.old number) }
+    {
+        del_and_reply(alloc, &mut self.maps[number as usize], k, steps, text)
     }
 }

@@ -5,8 +5,8 @@ ghost use Rattle.map_tool.specs.Counts.{CountFits, count_fits, count_monoid};
 ghost use Rattle.map_tool.specs.Greatest.{GreatestFits, greatest_fits, greatest_monoid, greatest_projection, either_passes};
 ghost use Rattle.map_tool.specs.Values.{resolved_by};
 
-use crate::How;
 use aug_monoid::{AugTest, NoMemory, Project, Reduce, Resolve, SumMax, Test, Totals};
+use map_records::How;
 use std::alloc::Global;
 
 /// How the values of two maps meet.

@@ -7,9 +7,9 @@ use Rattle.map_tool.specs.Values.{range_totals, totals_of}
 use Rattle.script.specs.Replies.{replies}
 use Rattle.pam_top.specs.Sample.{number_at, sample_commands}
 use Rattle.script.specs.Lines.{line_of}
-use Rattle.map_tool.specs.declared.how.How.TheVariants as how
-use Rattle.map_tool.specs.declared.commands.MapCommand.{MapCommand}
-use Rattle.map_tool.specs.declared.commands.MapCommand.TheVariants as command
+use Rattle.map_records.specs.declared.how.How.TheVariants as how
+use Rattle.map_records.specs.declared.commands.MapCommand.{MapCommand}
+use Rattle.map_records.specs.declared.commands.MapCommand.TheVariants as command
 
 abbrev text_of : List MapCommand → List ℕ
 text_of commands = replies map_reply map_after empty_registers commands

@@ -2,9 +2,9 @@
 use Rattle.std.specs.Prelude.{ℕ, zero, suc, ◌+◌, ◌*◌, ◌/◌, ◌%◌, ◌^◌, List, [], ◌∷◌, map}
 use Rattle.std.specs.List.{range_with_len}
 use Rattle.aug_monoid.specs.declared.pair64.Pair64.{Pair64}
-use Rattle.map_tool.specs.declared.how.How.TheVariants as how
-use Rattle.map_tool.specs.declared.commands.MapCommand.{MapCommand}
-use Rattle.map_tool.specs.declared.commands.MapCommand.TheVariants as command
+use Rattle.map_records.specs.declared.how.How.TheVariants as how
+use Rattle.map_records.specs.declared.commands.MapCommand.{MapCommand}
+use Rattle.map_records.specs.declared.commands.MapCommand.TheVariants as command
 
 -- the number of the generator after this one
 abbrev pub next_number : ℕ → ℕ

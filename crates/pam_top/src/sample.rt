@@ -5,7 +5,7 @@ ghost use Rattle.tool_input.specs.Lawful.{IsLawful};
 ghost use Rattle.tool_input.specs.declared.parsed.Parsed.TheVariants as parsed;
 
 use aug_monoid::{NoMemory, Pair64};
-use map_tool::{How, MapCommand};
+use map_records::{How, MapCommand};
 use script::Items;
 use std::alloc::Global;
 use tool_input::Parsed;

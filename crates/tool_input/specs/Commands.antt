@@ -4,7 +4,7 @@ use Rattle.check_input.specs.Input.{check_input_of}
 use Rattle.graph_tool.specs.GraphRecords.{graph_command}
 use Rattle.index_tool.specs.IndexRecords.{index_command}
 use Rattle.interval_tool.specs.IntervalRecords.{interval_command}
-use Rattle.map_tool.specs.MapRecords.{map_command}
+use Rattle.map_records.specs.MapRecords.{map_command}
 use Rattle.points_tool.specs.PointsRecords.{points_command}
 use Rattle.script.specs.Records.{records_of}
 use Rattle.script.specs.InOrder.{commands_from}

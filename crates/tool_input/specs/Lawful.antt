@@ -2,7 +2,7 @@
 use Rattle.std.specs.List.{AllByRecursion}
 use Rattle.index_tool.specs.IndexRecords.{HasTerms}
 use Rattle.interval_tool.specs.IntervalRecords.{HasEnds}
-use Rattle.map_tool.specs.MapRecords.{HasRegisters}
+use Rattle.map_records.specs.MapRecords.{HasRegisters}
 use Rattle.seq_tool.specs.SeqRecords.{NamesRegisters}
 use Rattle.serve_script.specs.Served.{IsServeInput}
 use Rattle.tool_input.specs.declared.parsed.Parsed.{Parsed}

@@ -10,7 +10,7 @@ use graph_tool::GraphCommand;
 use gserve_script::GserveCommand;
 use index_tool::IndexCommand;
 use interval_tool::IntervalCommand;
-use map_tool::MapCommand;
+use map_records::MapCommand;
 use points_tool::PointsCommand;
 use script::{Items, ScriptFault, read_all};
 use seq_tool::SeqCommand;

@@ -4,5 +4,5 @@ use Rattle.map_tool.proofs.combining.joined.Goals as goal
 
 pub join2-requires : goal.join2-requires
 join2-requires g c = record {
-  before = joins_before c.map_at-left.result.now.entries c.map_at-right.result.now.entries c.size.ensures.increasing c.size-2.ensures.increasing (sym c.in_ok-overlap.ensures ∙ c.if-branch.false);
+  before = joins_before c.args.a.now.entries c.args.b.now.entries c.size.ensures.increasing c.size-2.ensures.increasing (sym c.in_ok-overlap.ensures ∙ c.if-branch.false);
 }

@@ -1,14 +1,13 @@
-use Rattle.std.proofs.Common.{◌≡◌, ◌++◌, drop, length}
+use Rattle.std.proofs.Common.{◌≡◌, ◌++◌, drop}
 use Rattle.std.specs.List.{AllByRecursion}
+use Rattle.map_records.specs.MapRecords.{HasRegisters}
 use Rattle.map_tool.specs.Effects.{map_after, map_reply}
-use Rattle.map_tool.specs.Registers.{maps_of}
-use Rattle.map_tool.specs.MapRecords.{HasRegisters}
+use Rattle.map_tool.specs.Registers.{empty_registers, maps_of}
 use Rattle.script.specs.Replies.{replies}
 use Rattle.map_tool.proofs.command.run_all.Given as goal
 
 abbrev pub invariant-loop-command : goal.invariant-loop-command
 invariant-loop-command g l = record {
-  count : length l.registers ≡ 16;
-  low : AllByRecursion HasRegisters (drop l.command-index l.commands);
-  same : replies map_reply map_after (maps_of l.fn.registers) l.commands ≡ l.text.items ++ replies map_reply map_after (maps_of l.registers) (drop l.command-index l.commands);
+  lawful : AllByRecursion HasRegisters (drop l.command-index l.commands);
+  same : replies map_reply map_after empty_registers l.commands ≡ l.text.items ++ replies map_reply map_after (maps_of l.registers) (drop l.command-index l.commands);
 }

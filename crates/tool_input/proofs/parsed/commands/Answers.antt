@@ -1,6 +1,6 @@
 use Rattle.index_tool.proofs.IndexFacts.{all_terms}
 use Rattle.interval_tool.proofs.IntervalFacts.{all_ordered}
-use Rattle.map_tool.proofs.MapFacts.{all_lawful}
+use Rattle.map_records.proofs.MapFacts.{all_lawful}
 use Rattle.seq_tool.proofs.SeqFacts.{all_on_lists}
 use Rattle.script.specs.Records.{records_of}
 use Rattle.tool_input.proofs.parsed.commands.Goals as goal

@@ -1,8 +1,8 @@
 -- How two values meet, by its word.
 use Rattle.std.specs.Prelude.{ℕ, List, codes, Result, Ok, Option, Some, None, if◌then◌else◌}
 use Rattle.std.specs.Str.{bytes_eq}
-use Rattle.map_tool.specs.declared.how.How.{How}
-use Rattle.map_tool.specs.declared.how.How.TheVariants as how
+use Rattle.map_records.specs.declared.how.How.{How}
+use Rattle.map_records.specs.declared.how.How.TheVariants as how
 use Rattle.script.specs.Fields.{field, or_code, register_in}
 use Rattle.script.specs.Records.{Fields}
 use Rattle.script.specs.Results.{◌>>=◌}

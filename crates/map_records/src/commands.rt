@@ -1,7 +1,7 @@
-//! The commands of the tool map, of what kind they are, and their records: a row for each verb.
+//! The commands of the tool map, and their records: a row for each verb.
 ghost use Rattle.std.specs.Prelude.{◌≡◌};
 ghost use Rattle.csv.specs.Records.{fields_of};
-ghost use Rattle.map_tool.specs.MapRecords.{entry_command, joint_command, kind_of, map_command, part_command, range_command};
+ghost use Rattle.map_records.specs.MapRecords.{entry_command, joint_command, map_command, part_command, range_command};
 
 use crate::How;
 use crate::how::three_registers_how;
@@ -198,53 +198,6 @@ pub enum MapCommand {
         lo: u64,
         hi: u64,
     },
-}
-
-/// What a command does.
-#[derive(Clone, Copy, Debug, PartialEq, Eq)]
-pub(crate) enum Kind {
-    /// It changes nothing.
-    Question,
-    /// It sets or removes one entry of a register.
-    Entry,
-    /// It gives a register the answer of one call on one map.
-    Change,
-    /// It gives a register the answer of a call on whole maps.
-    Combination,
-}
-
-/// The kind of a command.
-pub(crate) fn kind_of(command: &MapCommand) -> Kind
-    ensures { result ≡ kind_of command.now }
-{
-    match command {
-        MapCommand::Get { .. }
-        | MapCommand::Size { .. }
-        | MapCommand::Sum { .. }
-        | MapCommand::Fold { .. }
-        | MapCommand::Max { .. }
-        | MapCommand::Rank { .. }
-        | MapCommand::Select { .. }
-        | MapCommand::Next { .. }
-        | MapCommand::Prev { .. }
-        | MapCommand::List { .. }
-        | MapCommand::Count { .. } => Kind::Question,
-        MapCommand::Put { .. } | MapCommand::Del { .. } => Kind::Entry,
-        MapCommand::Copy { .. }
-        | MapCommand::Clear { .. }
-        | MapCommand::Below { .. }
-        | MapCommand::Above { .. }
-        | MapCommand::Slice { .. }
-        | MapCommand::Atleast { .. } => Kind::Change,
-        MapCommand::Build { .. }
-        | MapCommand::Mput { .. }
-        | MapCommand::Mdel { .. }
-        | MapCommand::Union { .. }
-        | MapCommand::Inter { .. }
-        | MapCommand::Diff { .. }
-        | MapCommand::Cat { .. }
-        | MapCommand::Filter { .. } => Kind::Combination,
-    }
 }
 
 // Commands that make a register a part of another one.

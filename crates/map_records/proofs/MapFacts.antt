@@ -2,10 +2,10 @@
 use Rattle.std.proofs.Common.{◌<◌, ◌==◌, ℕ, List, Result, IfOk, length, codes}
 use Rattle.std.specs.List.{AllByRecursion}
 use Rattle.aug_monoid.specs.declared.pair64.Pair64.{Pair64}
-use Rattle.map_tool.specs.How.{how_in, three_registers_how}
-use Rattle.map_tool.specs.MapRecords.{HasRegisters, entry_command, joint_command, map_command, part_command, range_command}
-use Rattle.map_tool.specs.declared.commands.MapCommand.{MapCommand}
-use Rattle.map_tool.specs.declared.how.How.{How}
+use Rattle.map_records.specs.How.{how_in, three_registers_how}
+use Rattle.map_records.specs.MapRecords.{HasRegisters, entry_command, joint_command, map_command, part_command, range_command}
+use Rattle.map_records.specs.declared.commands.MapCommand.{MapCommand}
+use Rattle.map_records.specs.declared.how.How.{How}
 use Rattle.script.proofs.Chosen.{either_way}
 use Rattle.script.proofs.RegisterFacts.{IsLow, OneOf₂, OneOf₃, ThreeOf₃, TwoOf₂, TwoOf₃, TwoOf₄, register_lows, register_number_lows, register_number_number_lows, register_numbers_lows, register_pairs_lows, register_some_pairs_lows, then_low, three_registers_lows, two_registers_lows, two_registers_number_lows, two_registers_number_number_lows}
 use Rattle.script.proofs.RowFacts.{all_keep, made₁, made₂, made₃, made₄, then_any, where_it_fits}

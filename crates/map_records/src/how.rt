@@ -1,7 +1,7 @@
 //! How two values meet, and the fields of a record that tell it.
 ghost use Rattle.std.specs.Prelude.{◌≡◌};
 ghost use Rattle.csv.specs.Records.{fields_of};
-ghost use Rattle.map_tool.specs.How.{how_in, how_named, three_registers_how};
+ghost use Rattle.map_records.specs.How.{how_in, how_named, three_registers_how};
 
 use csv::ByteRecord;
 use script::Code;

@@ -1,0 +1,8 @@
+//! The records of the tool map: its commands, and how a record says one.
+#![tactic(auto)]
+
+mod commands;
+mod how;
+
+pub use commands::MapCommand;
+pub use how::How;
