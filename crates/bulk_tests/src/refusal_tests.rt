@@ -3,6 +3,7 @@ ghost use Rattle.std.specs.Prelude.{◌+◌, ◌-◌, ◌^◌, ◌<◌, min};
 ghost use Rattle.std.proofs.Common.{arith};
 ghost use Rattle.map_model.specs.Balance.{IsBlockSize};
 
+use crate::runs::assert_has;
 use aug_monoid::{Augment, First, NoMemory, Steps, Test};
 use batch_ops::build;
 use bulk_ops::{filter, union};
@@ -10,8 +11,8 @@ use fork_join::{Cut, FreeGate};
 use leaf_blocks::PlainLeaf;
 use std::alloc::Global;
 use std::marker::Sync;
+use std::process::Abort;
 use std::sync::ledger::Ledger;
-use std::test::Fail;
 use std::thread::Threads;
 use tree_base::Tree;
 
@@ -92,103 +93,68 @@ impl Test<u64, u64> for KeyBelow {
 }
 
 // The keys from one number on and below another, each with 1.
-fn ones(alloc: Global, from: u64, end: u64) -> Result<Vec<(u64, u64)>, NoMemory> {
+fn ones<R: Abort>(rt: &R, alloc: Global, from: u64, end: u64) -> Vec<(u64, u64)> {
     let mut pairs = Vec::new(alloc);
     for key in from..end {
-        pairs.push((key, 1))?;
+        pairs.push((key, 1)).expect(rt, "memory");
     }
-    Ok(pairs)
+    pairs
 }
 
-// Whether a build is refused.
-fn is_build_refused<R: Threads + Sync, const B: usize>(
-    rt: &R,
-    alloc: Global,
-) -> Result<bool, NoMemory>
-    requires { IsBlockSize B }
-{
-    let pairs = ones(alloc, 0, 1000)?;
-    let tree: Result<Capped<B>, NoMemory> = build(rt, alloc, &FreeGate, Cut::new(4, 1), &pairs);
-    Ok(tree.is_err())
-}
-
-// Whether a union is refused, and the entries that its maps have then.
-fn refused_union<R: Threads + Sync, const B: usize>(
-    rt: &R,
-    alloc: Global,
-    low: &[(u64, u64)],
-    high: &[(u64, u64)],
-) -> Result<(bool, Vec<(u64, u64)>), NoMemory>
-    requires { IsBlockSize B }
-{
-    let cut = Cut::new(4, 1);
-    let a: Capped<B> = build(rt, alloc, &FreeGate, cut, low)?;
-    let b: Capped<B> = build(rt, alloc, &FreeGate, cut, high)?;
-    let refused = union(rt, alloc, &FreeGate, cut, &a, &b, &First).is_err();
-    let mut entries = Vec::new(alloc);
-    a.push_entries(alloc, &mut entries)?;
-    b.push_entries(alloc, &mut entries)?;
-    Ok((refused, entries))
-}
-
-// Whether a filter by keys below 1000 is refused, and the entries that its map has then.
-fn refused_filter<R: Threads + Sync, const B: usize>(
+fn built<R: Threads + Abort + Sync, const B: usize>(
     rt: &R,
     alloc: Global,
     pairs: &[(u64, u64)],
-) -> Result<(bool, Vec<(u64, u64)>), NoMemory>
+) -> Result<Capped<B>, NoMemory>
     requires { IsBlockSize B }
 {
+    build(rt, alloc, &FreeGate, Cut::new(4, 1), pairs)
+}
+
+// Asserts that a build is refused.
+fn assert_build_refused<R: Threads + Abort + Sync, const B: usize>(rt: &R, alloc: Global)
+    requires { IsBlockSize B }
+{
+    let pairs = ones(rt, alloc, 0, 1000);
+    assert!(rt; built::<R, B>(rt, alloc, &pairs).is_err());
+}
+
+// Asserts that a union is refused, and leaves its maps.
+fn assert_union_refused<R: Threads + Abort + Sync, const B: usize>(rt: &R, alloc: Global)
+    requires { IsBlockSize B }
+{
+    let low = ones(rt, alloc, 0, 500);
+    let high = ones(rt, alloc, 500, 1000);
+    let a = built::<R, B>(rt, alloc, &low).expect(rt, "memory");
+    let b = built::<R, B>(rt, alloc, &high).expect(rt, "memory");
     let cut = Cut::new(4, 1);
-    let tree: Capped<B> = build(rt, alloc, &FreeGate, cut, pairs)?;
-    let refused = filter(rt, alloc, &FreeGate, cut, &tree, &KeyBelow { limit: 1000 }).is_err();
-    let mut entries = Vec::new(alloc);
-    tree.push_entries(alloc, &mut entries)?;
-    Ok((refused, entries))
+    assert!(rt; union(rt, alloc, &FreeGate, cut, &a, &b, &First).is_err());
+    assert_has(rt, alloc, &a, &low);
+    assert_has(rt, alloc, &b, &high);
 }
 
-// Whether a union is refused and leaves its maps.
-fn is_union_refused<R: Threads + Sync, const B: usize>(
-    rt: &R,
-    alloc: Global,
-) -> Result<bool, NoMemory>
+// Asserts that a filter by keys below 1000 is refused, and leaves its map.
+fn assert_filter_refused<R: Threads + Abort + Sync, const B: usize>(rt: &R, alloc: Global)
     requires { IsBlockSize B }
 {
-    let low = ones(alloc, 0, 500)?;
-    let high = ones(alloc, 500, 1000)?;
-    let (refused, both) = refused_union::<R, B>(rt, alloc, &low, &high)?;
-    Ok(refused && both == ones(alloc, 0, 1000)?)
+    let pairs = ones(rt, alloc, 0, 1001);
+    let tree = built::<R, B>(rt, alloc, &pairs).expect(rt, "memory");
+    let below = KeyBelow { limit: 1000 };
+    assert!(rt; filter(rt, alloc, &FreeGate, Cut::new(4, 1), &tree, &below).is_err());
+    assert_has(rt, alloc, &tree, &pairs);
 }
 
-// Whether a filter is refused and leaves its map.
-fn is_filter_refused<R: Threads + Sync, const B: usize>(
-    rt: &R,
-    alloc: Global,
-) -> Result<bool, NoMemory>
+// Asserts that a build, a union and a filter are refused where the sum is 1000, and leave their arguments.
+fn assert_refusals<R: Threads + Abort + Sync, const B: usize>(rt: &R, alloc: Global)
     requires { IsBlockSize B }
 {
-    let pairs = ones(alloc, 0, 1001)?;
-    let (refused, all) = refused_filter::<R, B>(rt, alloc, &pairs)?;
-    Ok(refused && all == pairs)
-}
-
-// Whether a build, a union and a filter are refused where the sum is 1000, and leave their arguments.
-fn refusals<R: Threads + Sync, const B: usize>(
-    rt: &R,
-    alloc: Global,
-) -> Result<(bool, bool, bool), NoMemory>
-    requires { IsBlockSize B }
-{
-    let built = is_build_refused::<R, B>(rt, alloc)?;
-    let united = is_union_refused::<R, B>(rt, alloc)?;
-    let filtered = is_filter_refused::<R, B>(rt, alloc)?;
-    Ok((built, united, filtered))
+    assert_build_refused::<R, B>(rt, alloc);
+    assert_union_refused::<R, B>(rt, alloc);
+    assert_filter_refused::<R, B>(rt, alloc);
 }
 
 #[test]
-fn a_sum_of_1000_is_refused(rt: HostRuntime) -> Result<(), Fail> {
-    let refused = (true, true, true);
-    assert_eq!(rt; refusals::<HostRuntime, 1>(&rt, rt.alloc())?, refused);
-    assert_eq!(rt; refusals::<HostRuntime, 32>(&rt, rt.alloc())?, refused);
-    Ok(())
+fn a_sum_of_1000_is_refused(rt: HostRuntime) {
+    assert_refusals::<HostRuntime, 1>(&rt, rt.alloc());
+    assert_refusals::<HostRuntime, 32>(&rt, rt.alloc());
 }

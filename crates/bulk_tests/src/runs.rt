@@ -1,12 +1,13 @@
-//! Maps of multiples, and their entries.
+//! Maps of multiples, and their entries. Where memory is refused, a test ends here.
 ghost use Rattle.map_model.specs.Balance.{IsBlockSize};
 
-use aug_monoid::{NoMemory, SumMax};
+use aug_monoid::{Augment, NoMemory, SumMax};
 use batch_ops::build;
 use fork_join::{Cut, FreeGate};
 use leaf_blocks::PlainLeaf;
 use std::alloc::Global;
 use std::marker::Sync;
+use std::process::Abort;
 use std::thread::Threads;
 use tree_base::Tree;
 
@@ -35,26 +36,48 @@ impl Multiples {
     }
 
     /// The entries, the greatest key first.
-    fn falling(self, alloc: Global) -> Result<Vec<(u64, u64)>, NoMemory> {
+    fn falling<R: Abort>(self, rt: &R, alloc: Global) -> Vec<(u64, u64)> {
         let mut pairs = Vec::new(alloc);
         for key in (self.from..self.end).rev() {
             if let Some(val) = self.value_at(key) {
-                pairs.push((key, val))?;
+                pairs.push((key, val)).expect(rt, "memory");
             }
         }
-        Ok(pairs)
+        pairs
     }
 
     /// The map of the multiples.
-    pub(crate) fn tree<R: Threads + Sync, const B: usize>(
+    pub(crate) fn tree<R: Threads + Abort + Sync, const B: usize>(
         self,
         rt: &R,
         alloc: Global,
         cut: Cut,
-    ) -> Result<Sums<B>, NoMemory>
+    ) -> Sums<B>
         requires { IsBlockSize B }
     {
-        let pairs = self.falling(alloc)?;
-        build(rt, alloc, &FreeGate, cut, pairs.as_slice())
+        let pairs = self.falling(rt, alloc);
+        build(rt, alloc, &FreeGate, cut, pairs.as_slice()).expect(rt, "memory")
     }
+}
+
+/// Asserts that a map has these entries.
+pub(crate) fn assert_has<R: Abort, A: Augment<Key = u64, Val = u64>, const B: usize>(
+    rt: &R,
+    alloc: Global,
+    tree: &Tree<A, PlainLeaf<u64, u64>, B>,
+    wanted: &[(u64, u64)],
+) {
+    let mut entries = Vec::new(alloc);
+    tree.push_entries(alloc, &mut entries).expect(rt, "memory");
+    assert_eq!(rt; entries.as_slice(), wanted);
+}
+
+/// Asserts that a map, which is dropped, was made and has these entries.
+pub(crate) fn assert_made<R: Abort, const B: usize>(
+    rt: &R,
+    alloc: Global,
+    tree: Result<Sums<B>, NoMemory>,
+    wanted: &[(u64, u64)],
+) {
+    assert_has(rt, alloc, &tree.expect(rt, "memory"), wanted);
 }

@@ -1,7 +1,7 @@
 //! Each operation at concrete types, against plain lists.
 ghost use Rattle.map_model.specs.Balance.{IsBlockSize};
 
-use crate::runs::{Multiples, Sums, multiples_of};
+use crate::runs::{Multiples, Sums, assert_has, assert_made, multiples_of};
 use aug_monoid::{First, NoMemory, Reduce, Second, Test};
 use batch_ops::{build, build_alone, multi_del, multi_del_alone, multi_put, multi_put_alone};
 use bulk_ops::{
@@ -11,7 +11,7 @@ use bulk_ops::{
 use fork_join::{Cut, FreeGate};
 use std::alloc::Global;
 use std::marker::Sync;
-use std::test::Fail;
+use std::process::Abort;
 use std::thread::Threads;
 
 #[derive(Clone, Copy, Debug)]
@@ -36,19 +36,20 @@ fn kept(call: Combined, a: Option<u64>, b: Option<u64>) -> Option<u64> {
 }
 
 // The entries that the call is to answer, key by key.
-fn wanted(
+fn wanted<R: Abort>(
+    rt: &R,
     alloc: Global,
     call: Combined,
     a: Multiples,
     b: Multiples,
-) -> Result<Vec<(u64, u64)>, NoMemory> {
+) -> Vec<(u64, u64)> {
     let mut entries = Vec::new(alloc);
     for key in 0..a.end.max(b.end) {
         if let Some(val) = kept(call, a.value_at(key), b.value_at(key)) {
-            entries.push((key, val))?;
+            entries.push((key, val)).expect(rt, "memory");
         }
     }
-    Ok(entries)
+    entries
 }
 
 // The map that the call answers.
@@ -72,130 +73,127 @@ fn answer_of<R: Threads + Sync, const B: usize>(
     }
 }
 
-// The entries of a map, which is dropped.
-fn listed<const B: usize>(alloc: Global, tree: Sums<B>) -> Result<Vec<(u64, u64)>, NoMemory> {
-    let mut entries = Vec::new(alloc);
-    tree.push_entries(alloc, &mut entries)?;
-    Ok(entries)
-}
-
-// The entries that the call answers.
-fn answered<R: Threads + Sync, const B: usize>(
+// Asserts that the call answers these entries.
+fn assert_answer<R: Threads + Abort + Sync, const B: usize>(
     rt: &R,
     alloc: Global,
     cut: Cut,
     call: Combined,
     a: Multiples,
     b: Multiples,
-) -> Result<Vec<(u64, u64)>, NoMemory>
+    wanted: &[(u64, u64)],
+)
     requires { IsBlockSize B }
 {
-    let first = a.tree::<R, B>(rt, alloc, cut)?;
-    let second = b.tree::<R, B>(rt, alloc, cut)?;
-    listed(alloc, answer_of(rt, alloc, cut, call, &first, &second)?)
+    let first = a.tree::<R, B>(rt, alloc, cut);
+    let second = b.tree::<R, B>(rt, alloc, cut);
+    assert_made(
+        rt,
+        alloc,
+        answer_of(rt, alloc, cut, call, &first, &second),
+        wanted,
+    );
 }
 
-// That the call answers what is wanted, in blocks of three sizes.
-fn answers<R: Threads + Sync>(
+// Asserts that the call answers what is wanted, in blocks of three sizes.
+fn assert_answers<R: Threads + Abort + Sync>(
     rt: &R,
     alloc: Global,
     cut: Cut,
     call: Combined,
     a: Multiples,
     b: Multiples,
-) -> Result<bool, NoMemory> {
-    let entries = wanted(alloc, call, a, b)?;
-    let one = answered::<R, 1>(rt, alloc, cut, call, a, b)? == entries;
-    let two = answered::<R, 2>(rt, alloc, cut, call, a, b)? == entries;
-    let many = answered::<R, 32>(rt, alloc, cut, call, a, b)? == entries;
-    Ok(one && two && many)
+) {
+    let entries = wanted(rt, alloc, call, a, b);
+    assert_answer::<R, 1>(rt, alloc, cut, call, a, b, &entries);
+    assert_answer::<R, 2>(rt, alloc, cut, call, a, b, &entries);
+    assert_answer::<R, 32>(rt, alloc, cut, call, a, b, &entries);
+}
+
+const CALLS: &[Combined] = &[
+    Combined::Union,
+    Combined::UnionAlone,
+    Combined::Intersection,
+    Combined::IntersectionAlone,
+    Combined::Difference,
+    Combined::DifferenceAlone,
+];
+
+// Asserts what each call answers.
+fn assert_calls<R: Threads + Abort + Sync>(
+    rt: &R,
+    alloc: Global,
+    cut: Cut,
+    a: Multiples,
+    b: Multiples,
+) {
+    for call in CALLS {
+        assert_answers(rt, alloc, cut, *call, a, b);
+    }
+}
+
+// Asserts what each call answers, on one worker, on four and on 64.
+fn assert_cuts<R: Threads + Abort + Sync>(rt: &R, alloc: Global, a: Multiples, b: Multiples) {
+    assert_calls(rt, alloc, Cut::new(1, 1), a, b);
+    assert_calls(rt, alloc, Cut::new(4, 1), a, b);
+    assert_calls(rt, alloc, Cut::new(64, 1), a, b);
 }
 
 #[test]
-fn two_maps_are_combined_key_by_key(rt: HostRuntime) -> Result<(), Fail> {
+fn two_maps_are_combined_key_by_key(rt: HostRuntime) {
     let evens = multiples_of(2, 0, 3000);
+    let none = multiples_of(1, 0, 0);
     for (a, b) in [
         (evens, evens),
         (evens, multiples_of(3, 0, 4500)),
         (multiples_of(1, 0, 1000), multiples_of(1, 1000, 1700)),
         (evens, multiples_of(700, 7, 3000)),
         (multiples_of(999, 0, 9000), evens),
-        (evens, multiples_of(1, 0, 0)),
-        (multiples_of(1, 0, 0), evens),
+        (evens, none),
+        (none, evens),
     ] {
-        for call in [
-            Combined::Union,
-            Combined::UnionAlone,
-            Combined::Intersection,
-            Combined::IntersectionAlone,
-            Combined::Difference,
-            Combined::DifferenceAlone,
-        ] {
-            for cut in [Cut::new(1, 1), Cut::new(4, 1), Cut::new(64, 1)] {
-                assert!(rt;
-                    answers(&rt, rt.alloc(), cut, call, a, b)?,
-                    "{call:?} {a:?} {b:?} {cut:?}"
-                );
-            }
-        }
+        assert_cuts(&rt, rt.alloc(), a, b);
     }
-    Ok(())
 }
 
-// The entries of a map that is put to and taken from.
-fn changed<R: Threads + Sync>(
-    rt: &R,
-    alloc: Global,
-    map: &Sums<2>,
-    puts: &[(u64, u64)],
-    keys: &[u64],
-) -> Result<Vec<(u64, u64)>, NoMemory> {
+const PAIRS: &[(u64, u64)] = &[(5, 50), (1, 10), (5, 51), (3, 30)];
+
+const BUILT: &[(u64, u64)] = &[(1, 10), (3, 30), (5, 51)];
+
+const PUTS: &[(u64, u64)] = &[(4, 40), (3, 31), (4, 41)];
+
+const AFTER_PUTS: &[(u64, u64)] = &[(1, 10), (3, 31), (4, 41), (5, 51)];
+
+const KEYS: &[u64] = &[9, 5, 0, 3, 5];
+
+const AFTER_DELS: &[(u64, u64)] = &[(1, 10), (4, 41)];
+
+// Asserts what a map is that is built, put to and taken from.
+fn assert_batches<R: Threads + Abort + Sync>(rt: &R, alloc: Global) {
     let cut = Cut::new(2, 1);
-    let put = multi_put(rt, alloc, &FreeGate, cut, map, puts)?;
-    listed(alloc, multi_del(rt, alloc, &FreeGate, cut, &put, keys)?)
+    let built: Result<Sums<2>, NoMemory> = build(rt, alloc, &FreeGate, cut, PAIRS);
+    let built = built.expect(rt, "memory");
+    assert_has(rt, alloc, &built, BUILT);
+    let put = multi_put(rt, alloc, &FreeGate, cut, &built, PUTS).expect(rt, "memory");
+    assert_has(rt, alloc, &put, AFTER_PUTS);
+    let left = multi_del(rt, alloc, &FreeGate, cut, &put, KEYS);
+    assert_made(rt, alloc, left, AFTER_DELS);
 }
 
-// The entries of a map that is built, put to and taken from.
-fn batched<R: Threads + Sync>(
-    rt: &R,
-    alloc: Global,
-    pairs: &[(u64, u64)],
-    puts: &[(u64, u64)],
-    keys: &[u64],
-) -> Result<Vec<(u64, u64)>, NoMemory> {
-    let built: Sums<2> = build(rt, alloc, &FreeGate, Cut::new(2, 1), pairs)?;
-    changed(rt, alloc, &built, puts, keys)
-}
-
-// The same entries on one thread.
-fn batched_alone(
-    alloc: Global,
-    pairs: &[(u64, u64)],
-    puts: &[(u64, u64)],
-    keys: &[u64],
-) -> Result<Vec<(u64, u64)>, NoMemory> {
-    let built: Sums<2> = build_alone(alloc, pairs)?;
-    let put = multi_put_alone(alloc, &built, puts)?;
-    listed(alloc, multi_del_alone(alloc, &put, keys)?)
+// The same on one thread.
+fn assert_batches_alone<R: Abort>(rt: &R, alloc: Global) {
+    let built: Result<Sums<2>, NoMemory> = build_alone(alloc, PAIRS);
+    let built = built.expect(rt, "memory");
+    assert_has(rt, alloc, &built, BUILT);
+    let put = multi_put_alone(alloc, &built, PUTS).expect(rt, "memory");
+    assert_has(rt, alloc, &put, AFTER_PUTS);
+    assert_made(rt, alloc, multi_del_alone(alloc, &put, KEYS), AFTER_DELS);
 }
 
 #[test]
-fn a_later_pair_of_a_key_wins(rt: HostRuntime) -> Result<(), Fail> {
-    let pairs = [(5, 50), (1, 10), (5, 51), (3, 30)];
-    let puts = [(4, 40), (3, 31), (4, 41)];
-    let keys = [9, 5, 0, 3, 5];
-    let built = batched(&rt, rt.alloc(), &pairs, &[], &[])?;
-    assert_eq!(rt; built.as_slice(), [(1, 10), (3, 30), (5, 51)].as_slice());
-    let put = batched(&rt, rt.alloc(), &pairs, &puts, &[])?;
-    assert_eq!(rt;
-        put.as_slice(),
-        [(1, 10), (3, 31), (4, 41), (5, 51)].as_slice()
-    );
-    let left = batched(&rt, rt.alloc(), &pairs, &puts, &keys)?;
-    assert_eq!(rt; left.as_slice(), [(1, 10), (4, 41)].as_slice());
-    let alone = batched_alone(rt.alloc(), &pairs, &puts, &keys)?;
-    assert_eq!(rt; alone.as_slice(), left.as_slice());
-    Ok(())
+fn a_later_pair_of_a_key_wins(rt: HostRuntime) {
+    assert_batches(&rt, rt.alloc());
+    assert_batches_alone(&rt, rt.alloc());
 }
 
 #[derive(Drop)]
@@ -254,40 +252,46 @@ impl Reduce<u64, u64> for KeySum {
 }
 
 // How many of the first thousand keys are below a limit, and their sum.
-fn filtered_sum<R: Threads + Sync>(
+fn filtered_sum<R: Threads + Abort + Sync>(
     rt: &R,
     alloc: Global,
     cut: Cut,
     limit: u64,
-) -> Result<(u64, u64), NoMemory> {
-    let all = multiples_of(1, 0, 1000).tree::<R, 2>(rt, alloc, cut)?;
-    let part = filter(rt, alloc, &FreeGate, cut, &all, &KeyBelow { limit })?;
-    let sum = map_reduce(rt, alloc, &FreeGate, cut, &part, &KeySum)?;
-    Ok((part.size(), sum))
+) -> (u64, u64) {
+    let all = multiples_of(1, 0, 1000).tree::<R, 2>(rt, alloc, cut);
+    let below = KeyBelow { limit };
+    let part = filter(rt, alloc, &FreeGate, cut, &all, &below).expect(rt, "memory");
+    let sum = map_reduce(rt, alloc, &FreeGate, cut, &part, &KeySum).expect(rt, "memory");
+    (part.size(), sum)
 }
 
 // The same on one thread.
-fn filtered_sum_alone<R: Threads + Sync>(
+fn filtered_sum_alone<R: Threads + Abort + Sync>(
     rt: &R,
     alloc: Global,
     cut: Cut,
     limit: u64,
-) -> Result<(u64, u64), NoMemory> {
-    let all = multiples_of(1, 0, 1000).tree::<R, 2>(rt, alloc, cut)?;
-    let part = filter_alone(alloc, &all, &KeyBelow { limit })?;
-    let sum = map_reduce_alone(alloc, &part, &KeySum)?;
-    Ok((part.size(), sum))
+) -> (u64, u64) {
+    let all = multiples_of(1, 0, 1000).tree::<R, 2>(rt, alloc, cut);
+    let part = filter_alone(alloc, &all, &KeyBelow { limit }).expect(rt, "memory");
+    let sum = map_reduce_alone(alloc, &part, &KeySum).expect(rt, "memory");
+    (part.size(), sum)
+}
+
+fn assert_filtered<R: Threads + Abort + Sync>(
+    rt: &R,
+    alloc: Global,
+    cut: Cut,
+    limit: u64,
+    wanted: (u64, u64),
+) {
+    assert_eq!(rt; filtered_sum(rt, alloc, cut, limit), wanted);
+    assert_eq!(rt; filtered_sum_alone(rt, alloc, cut, limit), wanted);
 }
 
 #[test]
-fn a_part_is_filtered_and_summed(rt: HostRuntime) -> Result<(), Fail> {
-    for (cut, limit, wanted) in [
-        (Cut::new(1, 1), 0, (0, 0)),
-        (Cut::new(4, 1), 100, (100, 4950)),
-        (Cut::new(64, 1), 1000, (1000, 499_500)),
-    ] {
-        assert_eq!(rt; filtered_sum(&rt, rt.alloc(), cut, limit)?, wanted);
-        assert_eq!(rt; filtered_sum_alone(&rt, rt.alloc(), cut, limit)?, wanted);
-    }
-    Ok(())
+fn a_part_is_filtered_and_summed(rt: HostRuntime) {
+    assert_filtered(&rt, rt.alloc(), Cut::new(1, 1), 0, (0, 0));
+    assert_filtered(&rt, rt.alloc(), Cut::new(4, 1), 100, (100, 4950));
+    assert_filtered(&rt, rt.alloc(), Cut::new(64, 1), 1000, (1000, 499_500));
 }

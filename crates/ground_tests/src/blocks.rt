@@ -1,9 +1,10 @@
-//! A block through its trait.
+//! A block through its trait. Where memory is refused, a test ends here.
 ghost use Rattle.std.specs.Prelude.{◌≡◌, ◌<◌};
 
-use aug_monoid::{Key, Leaf, NoMemory, Seek, Share, Steps};
+use aug_monoid::{Key, Leaf, LeafMut, Lent, Seek, Share, Steps};
 use std::alloc::Global;
 use std::marker::Brand;
+use std::process::Abort;
 use std::sync::ledger::{Blank, Ledger};
 
 fn counted_seek<K: Key, V: Share, L: Leaf<K, V>, C: Ledger>(leaf: &L, key: &K, blank: Blank) -> Seek
@@ -21,20 +22,104 @@ pub(crate) fn seek_of<K: Key, V: Share, L: Leaf<K, V>>(leaf: &L, key: &K) -> (u6
     (seek.at, seek.hit)
 }
 
+/// Asserts that keys stand at their places, and whether they are there.
+pub(crate) fn assert_seeks<R: Abort, V: Share, L: Leaf<u64, V>>(
+    rt: &R,
+    leaf: &L,
+    rows: &[(u64, u64, bool)],
+) {
+    for row in rows {
+        assert_eq!(rt; seek_of(leaf, &row.0), (row.1, row.2));
+    }
+}
+
+fn push_entry<R: Abort, K: Key, V: Share>(
+    rt: &R,
+    alloc: Global,
+    entries: &mut Vec<(K, V)>,
+    entry: Lent<'_, K, V>,
+) {
+    let entry = entry.into_entry(alloc).expect(rt, "an entry");
+    entries.push(entry).expect(rt, "memory");
+}
+
 /// The entries that a walk gives, with one call more than there are entries.
-pub(crate) fn walked<K: Key, V: Share, L: Leaf<K, V>>(
+pub(crate) fn walked<R: Abort, K: Key, V: Share, L: Leaf<K, V>>(
+    rt: &R,
     alloc: Global,
     leaf: &L,
-) -> Result<Vec<(K, V)>, NoMemory> {
+) -> Vec<(K, V)> {
     let mut entries = Vec::new(alloc);
     let mut walk = leaf.walk();
-    for _ in 0..leaf.len() {
+    for _ in 0..leaf.len().saturating_add(1) {
         if let Some(entry) = leaf.walk_next(&mut walk) {
-            entries.push(entry.into_entry(alloc)?)?;
+            push_entry(rt, alloc, &mut entries, entry);
         }
     }
-    if let Some(entry) = leaf.walk_next(&mut walk) {
-        entries.push(entry.into_entry(alloc)?)?;
-    }
-    Ok(entries)
+    entries
+}
+
+/// Asserts that a walk gives these entries.
+pub(crate) fn assert_walk<R: Abort, L: Leaf<u64, u64>>(
+    rt: &R,
+    alloc: Global,
+    leaf: &L,
+    wanted: &[(u64, u64)],
+) {
+    assert_eq!(rt; walked(rt, alloc, leaf).as_slice(), wanted);
+}
+
+/// The leaf of 5,1 7,2 300,3 with 9,4 in its third place.
+pub(crate) fn inserted<R: Abort, L: Leaf<u64, u64>>(rt: &R, alloc: Global) -> L {
+    let leaf = L::from_entries(alloc, &[(5, 1), (7, 2), (300, 3)]).expect(rt, "memory");
+    leaf.splice(alloc, 2, 2, 9, 4).expect(rt, "memory")
+}
+
+/// The leaf of 5,1 7,2 300,3 with 7,8 in the place of its second entry.
+pub(crate) fn replaced<R: Abort, L: Leaf<u64, u64>>(rt: &R, alloc: Global) -> L {
+    let leaf = L::from_entries(alloc, &[(5, 1), (7, 2), (300, 3)]).expect(rt, "memory");
+    leaf.splice(alloc, 1, 2, 7, 8).expect(rt, "memory")
+}
+
+/// The leaf of 5,1 7,2 300,3 without its second entry.
+pub(crate) fn lessened<R: Abort, L: Leaf<u64, u64>>(rt: &R, alloc: Global) -> L {
+    let leaf = L::from_entries(alloc, &[(5, 1), (7, 2), (300, 3)]).expect(rt, "memory");
+    leaf.without(alloc, 1).expect(rt, "memory")
+}
+
+/// The leaf of 5,1 7,2 with 6,4 between these, put there in place.
+pub(crate) fn grown<R: Abort, L: LeafMut<u64, u64>>(rt: &R, alloc: Global) -> L {
+    let mut leaf = L::from_entries(alloc, &[(5, 1), (7, 2)]).expect(rt, "memory");
+    leaf.insert_at(alloc, 1, 6, 4).expect(rt, "memory");
+    leaf
+}
+
+/// The leaf of 5,1 7,2 with 7,8 at its second place and without its first entry, in place.
+pub(crate) fn shrunk<R: Abort, L: LeafMut<u64, u64>>(rt: &R, alloc: Global) -> L {
+    let mut leaf = L::from_entries(alloc, &[(5, 1), (7, 2)]).expect(rt, "memory");
+    leaf.set_at(alloc, 1, 7, 8).expect(rt, "memory");
+    leaf.remove_at(alloc, 0).expect(rt, "memory");
+    leaf
+}
+
+/// The leaf of 5,300, which is handed over.
+pub(crate) fn one<R: Abort, L: Leaf<u64, u64>>(rt: &R, alloc: Global) -> L {
+    let entries = vec![in alloc; (5, 300)].expect(rt, "memory");
+    L::from_owned(alloc, entries).expect(rt, "memory")
+}
+
+/// The leaf of 5,1 and 7,2, put together around 6,4 of the front and the back of the leaf of both.
+pub(crate) fn rejoined<R: Abort, L: Leaf<u64, u64>>(rt: &R, alloc: Global) -> L {
+    let leaf = L::from_entries(alloc, &[(5, 1), (7, 2)]).expect(rt, "memory");
+    let front = leaf.front(alloc, 1).expect(rt, "memory");
+    let back = leaf.back(alloc, 1).expect(rt, "memory");
+    front.concat3(alloc, 6, 4, &back).expect(rt, "memory")
+}
+
+/// The back of the leaf of 5,1 from behind its entry on, with 7,1 put before the same: an empty leaf on either side.
+pub(crate) fn between_none<R: Abort, L: Leaf<u64, u64>>(rt: &R, alloc: Global) -> L {
+    let leaf = L::from_entries(alloc, &[(5, 1)]).expect(rt, "memory");
+    let none = leaf.front(alloc, 0).expect(rt, "memory");
+    let back = leaf.back(alloc, 1).expect(rt, "memory");
+    back.concat3(alloc, 7, 1, &none).expect(rt, "memory")
 }

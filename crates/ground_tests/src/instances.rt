@@ -11,10 +11,11 @@ use aug_monoid::{
 use std::alloc::Global;
 use std::cmp::Ordering;
 use std::marker::Brand;
+use std::process::Abort;
 use std::sync::ledger::{Blank, Ledger};
 
-fn shared<T: Share>(alloc: Global, value: &T) -> Result<T, NoMemory> {
-    value.share(alloc)
+fn shared<R: Abort, T: Share>(rt: &R, alloc: Global, value: &T) -> T {
+    value.share(alloc).expect(rt, "memory")
 }
 
 fn counted_order<K: Key, C: Ledger>(a: &K, b: &K, blank: Blank) -> Ordering
@@ -30,11 +31,12 @@ fn order_of<K: Key>(a: &K, b: &K) -> Ordering {
     counted_order::<K, Brand>(a, b, Blank::new(1))
 }
 
-fn counted_fold<A: Augment, C: Ledger>(
+fn counted_fold<R: Abort, A: Augment, C: Ledger>(
+    rt: &R,
     alloc: Global,
     entries: &[(A::Key, A::Val)],
     blank: Blank,
-) -> Result<A::Aug, NoMemory>
+) -> A::Aug
     requires name { blank.name ≡ C.name }
     requires parts { blank.parts ≡ C.parts }
     requires some { 0 < blank.parts }
@@ -42,82 +44,90 @@ fn counted_fold<A: Augment, C: Ledger>(
     let mut steps = Steps::<C>::start(blank);
     let mut fold = A::unit();
     for entry in entries {
-        let base = A::base(alloc, &entry.0, &entry.1)?;
-        fold = A::combine(alloc, &fold, &base, &mut steps)?;
+        let base = A::base(alloc, &entry.0, &entry.1).expect(rt, "memory");
+        fold = A::combine(alloc, &fold, &base, &mut steps).expect(rt, "memory");
     }
-    Ok(fold)
+    fold
 }
 
-fn fold_of<A: Augment>(alloc: Global, entries: &[(A::Key, A::Val)]) -> Result<A::Aug, NoMemory> {
-    counted_fold::<A, Brand>(alloc, entries, Blank::new(1))
+fn fold_of<R: Abort, A: Augment>(rt: &R, alloc: Global, entries: &[(A::Key, A::Val)]) -> A::Aug {
+    counted_fold::<R, A, Brand>(rt, alloc, entries, Blank::new(1))
 }
 
-fn resolved<R: Resolve<u64>>(alloc: Global, how: &R, a: u64, b: u64) -> Result<u64, NoMemory> {
-    how.resolve(alloc, &a, &b)
+fn resolved<R: Abort, W: Resolve<u64>>(rt: &R, alloc: Global, how: &W, a: u64, b: u64) -> u64 {
+    how.resolve(alloc, &a, &b).expect(rt, "memory")
 }
 
 fn pair(first: u64, second: u64) -> Pair64 {
     Pair64 { first, second }
 }
 
+fn totals(sum: u64, greatest: u64) -> Totals {
+    Totals { sum, greatest }
+}
+
 #[test]
-fn shares_are_the_same(rt: HostRuntime) -> Result<(), NoMemory> {
+fn shares_are_the_same(rt: HostRuntime) {
     let alloc = rt.alloc();
-    assert_eq!(rt; shared(alloc, &7u32)?, 7);
-    assert_eq!(rt; shared(alloc, &(Some(u64::MAX), ()))?, (Some(u64::MAX), ()));
-    assert_eq!(rt; shared(alloc, &None::<u64>)?, None);
-    assert_eq!(rt; shared(alloc, &pair(3, 4))?, pair(3, 4));
-    let totals = Totals {
-        sum: 5,
-        greatest: 3,
-    };
-    assert_eq!(rt; shared(alloc, &totals)?, totals);
-    Ok(())
+    let nested = (Some(u64::MAX), ());
+    assert_eq!(rt; shared(&rt, alloc, &7u32), 7);
+    assert_eq!(rt; shared(&rt, alloc, &nested), nested);
+    assert_eq!(rt; shared(&rt, alloc, &pair(3, 4)), pair(3, 4));
+    assert_eq!(rt; shared(&rt, alloc, &totals(5, 3)), totals(5, 3));
 }
 
 #[test]
 fn pairs_are_ordered_by_their_first_number(rt: HostRuntime) {
-    assert_eq!(rt; order_of(&2u64, &10), Ordering::Less);
-    assert_eq!(rt; order_of(&pair(1, 9), &pair(2, 0)), Ordering::Less);
-    assert_eq!(rt; order_of(&pair(1, 9), &pair(1, 3)), Ordering::Greater);
-    assert_eq!(rt; order_of(&pair(1, 3), &pair(1, 3)), Ordering::Equal);
+    assert!(rt; order_of(&2u64, &10) == Ordering::Less);
+    assert!(rt; order_of(&pair(1, 9), &pair(2, 0)) == Ordering::Less);
+    assert!(rt; order_of(&pair(1, 9), &pair(1, 3)) == Ordering::Greater);
+    assert!(rt; order_of(&pair(1, 3), &pair(1, 3)) == Ordering::Equal);
+}
+
+const NUMBERS: &[(u64, u64)] = &[(1, 10), (3, 34), (4, 40), (5, 50)];
+
+const GREATEST: &[(u64, u64)] = &[(0, u64::MAX), (1, u64::MAX)];
+
+#[test]
+fn sums_of_entries(rt: HostRuntime) {
+    let few = fold_of::<HostRuntime, SumMax<u64>>(&rt, rt.alloc(), NUMBERS);
+    assert_eq!(rt; few, totals(134, 50));
+    let most = fold_of::<HostRuntime, SumMax<u64>>(&rt, rt.alloc(), GREATEST);
+    assert_eq!(rt; most, totals(u64::MAX, u64::MAX));
 }
 
 #[test]
-fn folds_of_maps(rt: HostRuntime) -> Result<(), NoMemory> {
-    let alloc = rt.alloc();
-    let numbers = [(1, 10), (3, 34), (4, 40), (5, 50)];
-    let totals = Totals {
-        sum: 134,
-        greatest: 50,
-    };
-    assert_eq!(rt; fold_of::<SumMax<u64>>(alloc, &numbers)?, totals);
-    let full = [(0, u64::MAX), (1, u64::MAX)];
-    let greatest = Totals {
-        sum: u64::MAX,
-        greatest: u64::MAX,
-    };
-    assert_eq!(rt; fold_of::<SumMax<u64>>(alloc, &full)?, greatest);
+fn right_ends_of_entries(rt: HostRuntime) {
     let intervals = [(pair(1, 3), ()), (pair(3, 12), ()), (pair(5, 9), ())];
-    assert_eq!(rt; fold_of::<MaxRight>(alloc, &intervals)?, Some(12));
-    assert_eq!(rt; fold_of::<MaxRight>(alloc, &[])?, None);
-    fold_of::<Nothing<u64, u64>>(alloc, &numbers)?;
-    let both = fold_of::<Pair<SumMax<u64>, Nothing<u64, u64>>>(alloc, &numbers)?;
-    assert_eq!(rt; both, (totals, ()));
-    Ok(())
+    let right = fold_of::<HostRuntime, MaxRight>(&rt, rt.alloc(), &intervals);
+    assert_eq!(rt; right, Some(12));
+    let none = fold_of::<HostRuntime, MaxRight>(&rt, rt.alloc(), &[]);
+    assert_eq!(rt; none, None);
+}
+
+type Both = Pair<SumMax<u64>, Nothing<u64, u64>>;
+
+#[test]
+fn two_folds_at_once(rt: HostRuntime) {
+    let both = fold_of::<HostRuntime, Both>(&rt, rt.alloc(), NUMBERS);
+    assert_eq!(rt; both, (totals(134, 50), ()));
+}
+
+/// The first of two values, the second, their sum and the larger, as each is resolved.
+fn all_resolved<R: Abort>(rt: &R, alloc: Global, a: u64, b: u64) -> (u64, u64, u64, u64) {
+    let first = resolved(rt, alloc, &First, a, b);
+    let second = resolved(rt, alloc, &Second, a, b);
+    let sum = resolved(rt, alloc, &SatSum, a, b);
+    (first, second, sum, resolved(rt, alloc, &Larger, a, b))
 }
 
 #[test]
-fn values_at_a_key_of_both(rt: HostRuntime) -> Result<(), NoMemory> {
-    let alloc = rt.alloc();
+fn values_at_a_key_of_both(rt: HostRuntime) {
+    let small = all_resolved(&rt, rt.alloc(), 30, 4);
+    assert!(rt; small == (30, 4, 34, 30));
     let near = u64::MAX - 1;
-    for (a, b, sum, larger) in [(30, 4, 34, 30), (0, 0, 0, 0), (2, near, u64::MAX, near)] {
-        assert_eq!(rt; resolved(alloc, &First, a, b)?, a);
-        assert_eq!(rt; resolved(alloc, &Second, a, b)?, b);
-        assert_eq!(rt; resolved(alloc, &SatSum, a, b)?, sum);
-        assert_eq!(rt; resolved(alloc, &Larger, a, b)?, larger);
-    }
-    Ok(())
+    let great = all_resolved(&rt, rt.alloc(), 2, near);
+    assert!(rt; great == (2, near, u64::MAX, near));
 }
 
 /// Values of at least `bound`.
@@ -204,52 +214,53 @@ impl Project<SumMax<u64>> for SumAlone {
     }
 }
 
-// The answer for two entries, as a fork makes it.
-fn reduced<M: SyncReduce<u64, u64>>(
+/// The answer for two entries, as a fork makes it.
+fn reduced<R: Abort, M: SyncReduce<u64, u64>>(
+    rt: &R,
     alloc: Global,
     how: &M,
     left: (u64, u64),
     right: (u64, u64),
-) -> Result<M::Out, NoMemory> {
-    let first = how.of(alloc, &left.0, &left.1)?;
-    let both = how.meet(alloc, how.unit(), first)?;
-    let second = how.of(alloc, &right.0, &right.1)?;
-    how.meet(alloc, both, second)
+) -> M::Out {
+    let first = how.of(alloc, &left.0, &left.1).expect(rt, "memory");
+    let both = how.meet(alloc, how.unit(), first).expect(rt, "memory");
+    let second = how.of(alloc, &right.0, &right.1).expect(rt, "memory");
+    how.meet(alloc, both, second).expect(rt, "memory")
 }
 
-fn projected<A: SyncAugment, P: Project<A>>(
+fn projected<R: Abort, A: SyncAugment, P: Project<A>>(
+    rt: &R,
     alloc: Global,
     how: &P,
     left: &A::Aug,
     right: &A::Aug,
-) -> Result<P::Out, NoMemory> {
-    let first = how.image(alloc, left)?;
-    let second = how.image(alloc, right)?;
-    how.meet(alloc, first, second)
+) -> P::Out {
+    let first = how.image(alloc, left).expect(rt, "memory");
+    let second = how.image(alloc, right).expect(rt, "memory");
+    how.meet(alloc, first, second).expect(rt, "memory")
 }
 
 #[test]
-fn a_user_states_tests_and_answers(rt: HostRuntime) -> Result<(), NoMemory> {
-    let alloc = rt.alloc();
+fn a_user_states_tests(rt: HostRuntime) {
     let test = AtLeast { bound: 30 };
-    let low = Totals {
-        sum: 12,
-        greatest: 10,
-    };
-    let high = Totals {
-        sum: 70,
-        greatest: 40,
-    };
-    assert_eq!(rt; test.holds(&1, &30), true);
-    assert_eq!(rt; test.holds(&40, &29), false);
-    assert_eq!(rt; test.passes(&low), false);
-    assert_eq!(rt; test.passes(&high), true);
-    assert_eq!(rt; reduced(alloc, &Count, (1, 10), (3, 30))?, 2);
-    assert_eq!(rt;
-        projected::<SumMax<u64>, SumAlone>(alloc, &SumAlone, &low, &high)?,
-        82
+    assert!(rt; test.holds(&1, &30) && !test.holds(&40, &29));
+    assert!(rt; test.passes(&totals(70, 40)) && !test.passes(&totals(12, 10)));
+}
+
+#[test]
+fn a_user_states_answers(rt: HostRuntime) {
+    let count = reduced(&rt, rt.alloc(), &Count, (1, 10), (3, 30));
+    assert_eq!(rt; count, 2);
+    let low = totals(12, 10);
+    let high = totals(70, 40);
+    let sum = projected::<HostRuntime, SumMax<u64>, SumAlone>(
+        &rt,
+        rt.alloc(),
+        &SumAlone,
+        &low,
+        &high,
     );
-    Ok(())
+    assert_eq!(rt; sum, 82);
 }
 
 #[test]

@@ -14,6 +14,8 @@ mod plain_blocks;
 #[cfg(test)]
 mod plain_program;
 #[cfg(test)]
+mod row_blocks;
+#[cfg(test)]
 mod sets;
 #[cfg(test)]
 mod slices;

@@ -1,114 +1,106 @@
 //! Plain blocks of a few entries.
 
-use crate::blocks::{seek_of, walked};
-use aug_monoid::{Leaf, LeafMut, NoMemory, Pair64, owned};
+use crate::blocks::{
+    assert_seeks, assert_walk, between_none, grown, inserted, lessened, one, rejoined, replaced,
+    shrunk, walked,
+};
+use aug_monoid::{Leaf, Pair64, owned};
 use leaf_blocks::{PlainLeaf, leaf_crosses};
+use std::alloc::Global;
+use std::process::Abort;
 
-#[test]
-fn keys_are_found_at_their_places(rt: HostRuntime) -> Result<(), NoMemory> {
-    let alloc = rt.alloc();
+type Numbers = PlainLeaf<u64, u64>;
+
+/// The leaf of five entries.
+fn five<R: Abort>(rt: &R, alloc: Global) -> Numbers {
     let entries = [(2, 20), (4, 40), (6, 60), (8, 80), (10, 100)];
-    let leaf = PlainLeaf::<u64, u64>::from_entries(alloc, &entries)?;
+    PlainLeaf::from_entries(alloc, &entries).expect(rt, "memory")
+}
+
+const PLACES: &[(u64, u64, bool)] = &[
+    (0, 0, false),
+    (2, 0, true),
+    (3, 1, false),
+    (4, 1, true),
+    (6, 2, true),
+    (7, 3, false),
+    (8, 3, true),
+    (10, 4, true),
+    (11, 5, false),
+];
+
+#[test]
+fn keys_are_found_at_their_places(rt: HostRuntime) {
+    assert_seeks(&rt, &five(&rt, rt.alloc()), PLACES);
+}
+
+#[test]
+fn an_entry_is_lent_by_its_place(rt: HostRuntime) {
+    let leaf = five(&rt, rt.alloc());
     assert_eq!(rt; leaf.len(), 5);
-    for (key, at, hit) in [
-        (0, 0, false),
-        (2, 0, true),
-        (3, 1, false),
-        (4, 1, true),
-        (6, 2, true),
-        (7, 3, false),
-        (8, 3, true),
-        (10, 4, true),
-        (11, 5, false),
-    ] {
-        assert_eq!(rt; seek_of(&leaf, &key), (at, hit), "key {key}");
-    }
-    let none = PlainLeaf::<u64, u64>::from_entries(alloc, &[])?;
-    assert_eq!(rt; seek_of(&none, &3), (0, false));
-    assert!(rt; owned(alloc, leaf.get_at(4))? == Some((10, 100)));
-    assert!(rt; owned(alloc, leaf.get_at(5))? == None);
-    Ok(())
+    let last = owned(rt.alloc(), leaf.get_at(4)).expect(&rt, "memory");
+    assert!(rt; last == Some((10, 100)));
+    assert!(rt; leaf.get_at(5).is_none());
 }
 
 #[test]
-fn a_walk_gives_all_entries(rt: HostRuntime) -> Result<(), NoMemory> {
-    let alloc = rt.alloc();
-    let entries = [
-        (
-            Pair64 {
-                first: 1,
-                second: 9,
-            },
-            (),
-        ),
-        (
-            Pair64 {
-                first: 2,
-                second: 0,
-            },
-            (),
-        ),
-    ];
-    let leaf = PlainLeaf::<Pair64, ()>::from_entries(alloc, &entries)?;
+fn a_walk_gives_all_entries(rt: HostRuntime) {
+    let early = Pair64 {
+        first: 1,
+        second: 9,
+    };
+    let late = Pair64 {
+        first: 2,
+        second: 0,
+    };
+    let entries = [(early, ()), (late, ())];
+    let leaf = PlainLeaf::<Pair64, ()>::from_entries(rt.alloc(), &entries).expect(&rt, "memory");
     leaf_crosses(&leaf);
-    assert_eq!(rt; walked(alloc, &leaf)?.as_slice(), entries.as_slice());
-    Ok(())
+    assert_eq!(rt;
+        walked(&rt, rt.alloc(), &leaf).as_slice(),
+        entries.as_slice()
+    );
 }
 
-#[test]
-fn parts_are_put_together_again(rt: HostRuntime) -> Result<(), NoMemory> {
-    let alloc = rt.alloc();
-    let entries = [(1, 10), (2, 20), (3, 30)];
-    let leaf = PlainLeaf::<u64, u64>::from_entries(alloc, &entries)?;
-    let front = leaf.front(alloc, 2)?;
-    let back = leaf.back(alloc, 2)?;
-    assert_eq!(rt;
-        walked(alloc, &front)?.as_slice(),
-        [(1, 10), (2, 20)].as_slice()
-    );
-    assert_eq!(rt; walked(alloc, &back)?.as_slice(), [(3, 30)].as_slice());
-    let low = PlainLeaf::<u64, u64>::from_owned(alloc, vec![in alloc; (1, 10)]?)?;
-    let high = PlainLeaf::<u64, u64>::from_entries(alloc, &[(7, 70), (9, 90)])?;
-    let whole = low.concat3(alloc, 5, 50, &high)?;
-    let joined = [(1, 10), (5, 50), (7, 70), (9, 90)];
-    assert_eq!(rt; walked(alloc, &whole)?.as_slice(), joined.as_slice());
-    Ok(())
+fn assert_entries<R: Abort>(rt: &R, alloc: Global, leaf: Numbers, wanted: &[(u64, u64)]) {
+    assert_walk(rt, alloc, &leaf, wanted);
 }
 
-#[test]
-fn one_entry_is_changed(rt: HostRuntime) -> Result<(), NoMemory> {
-    let alloc = rt.alloc();
-    let leaf = PlainLeaf::<u64, u64>::from_entries(alloc, &[(1, 10), (3, 30), (5, 50)])?;
-    let inserted = leaf.splice(alloc, 1, 1, 2, 20)?;
-    assert_eq!(rt;
-        walked(alloc, &inserted)?.as_slice(),
-        [(1, 10), (2, 20), (3, 30), (5, 50)].as_slice()
-    );
-    let replaced = leaf.splice(alloc, 1, 2, 3, 31)?;
-    assert_eq!(rt;
-        walked(alloc, &replaced)?.as_slice(),
-        [(1, 10), (3, 31), (5, 50)].as_slice()
-    );
-    let rest = leaf.without(alloc, 1)?;
-    assert_eq!(rt;
-        walked(alloc, &rest)?.as_slice(),
-        [(1, 10), (5, 50)].as_slice()
-    );
-    Ok(())
-}
+const ONE: &[(u64, u64)] = &[(5, 300)];
+
+const REJOINED: &[(u64, u64)] = &[(5, 1), (6, 4), (7, 2)];
+
+const BETWEEN_NONE: &[(u64, u64)] = &[(7, 1)];
 
 #[test]
-fn one_entry_is_changed_in_place(rt: HostRuntime) -> Result<(), NoMemory> {
+fn parts_are_put_together_again(rt: HostRuntime) {
     let alloc = rt.alloc();
-    let mut grown = PlainLeaf::<u64, u64>::from_entries(alloc, &[(1, 10), (3, 30)])?;
-    grown.insert_at(alloc, 1, 2, 20)?;
-    assert_eq!(rt;
-        walked(alloc, &grown)?.as_slice(),
-        [(1, 10), (2, 20), (3, 30)].as_slice()
-    );
-    let mut replaced = PlainLeaf::<u64, u64>::from_entries(alloc, &[(1, 10), (3, 30)])?;
-    replaced.set_at(alloc, 1, 3, 31)?;
-    replaced.remove_at(alloc, 0)?;
-    assert_eq!(rt; walked(alloc, &replaced)?.as_slice(), [(3, 31)].as_slice());
-    Ok(())
+    assert_entries(&rt, alloc, one(&rt, alloc), ONE);
+    assert_entries(&rt, alloc, rejoined(&rt, alloc), REJOINED);
+    assert_entries(&rt, alloc, between_none(&rt, alloc), BETWEEN_NONE);
+}
+
+const INSERTED: &[(u64, u64)] = &[(5, 1), (7, 2), (9, 4), (300, 3)];
+
+const REPLACED: &[(u64, u64)] = &[(5, 1), (7, 8), (300, 3)];
+
+const LESSENED: &[(u64, u64)] = &[(5, 1), (300, 3)];
+
+#[test]
+fn one_entry_is_changed(rt: HostRuntime) {
+    let alloc = rt.alloc();
+    assert_entries(&rt, alloc, inserted(&rt, alloc), INSERTED);
+    assert_entries(&rt, alloc, replaced(&rt, alloc), REPLACED);
+    assert_entries(&rt, alloc, lessened(&rt, alloc), LESSENED);
+}
+
+const GROWN: &[(u64, u64)] = &[(5, 1), (6, 4), (7, 2)];
+
+const SHRUNK: &[(u64, u64)] = &[(7, 8)];
+
+#[test]
+fn one_entry_is_changed_in_place(rt: HostRuntime) {
+    let alloc = rt.alloc();
+    assert_entries(&rt, alloc, grown(&rt, alloc), GROWN);
+    assert_entries(&rt, alloc, shrunk(&rt, alloc), SHRUNK);
 }

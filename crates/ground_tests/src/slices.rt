@@ -1,8 +1,8 @@
 //! Each operation once at concrete types.
 
-use aug_monoid::{SatSum, Test};
+use aug_monoid::{NoMemory, SatSum, Test};
 use entry_lists::{difference_of, filtered_of, intersect_of, union_of};
-use std::test::Fail;
+use std::process::Abort;
 
 const ODD: [(u64, u64); 3] = [(1, 10), (3, 30), (5, 50)];
 
@@ -23,33 +23,22 @@ impl Test<u64, u64> for ValueAbove {
     }
 }
 
-#[test]
-fn a_union_adds_the_values_of_a_key_of_both(rt: HostRuntime) -> Result<(), Fail> {
-    let both = union_of(rt.alloc(), &ODD, &LATER, &SatSum)?;
-    assert_eq!(rt;
-        both.as_slice(),
-        [(1, 10), (3, 34), (4, 40), (5, 50)].as_slice()
-    );
-    Ok(())
+fn check(rt: &impl Abort, list: Result<Vec<(u64, u64)>, NoMemory>, wanted: &[(u64, u64)]) {
+    assert_eq!(rt; list.expect(rt, "memory").as_slice(), wanted);
 }
 
 #[test]
-fn an_intersection_has_the_keys_of_both(rt: HostRuntime) -> Result<(), Fail> {
-    let common = intersect_of(rt.alloc(), &ODD, &LATER, &SatSum)?;
-    assert_eq!(rt; common.as_slice(), [(3, 34)].as_slice());
-    Ok(())
+fn two_lists_are_put_together(rt: HostRuntime) {
+    let alloc = rt.alloc();
+    let both = [(1, 10), (3, 34), (4, 40), (5, 50)];
+    check(&rt, union_of(alloc, &ODD, &LATER, &SatSum), &both);
+    check(&rt, intersect_of(alloc, &ODD, &LATER, &SatSum), &[(3, 34)]);
+    check(&rt, difference_of(alloc, &ODD, &LATER), &[(1, 10), (5, 50)]);
 }
 
 #[test]
-fn a_difference_has_the_other_keys(rt: HostRuntime) -> Result<(), Fail> {
-    let others = difference_of(rt.alloc(), &ODD, &LATER)?;
-    assert_eq!(rt; others.as_slice(), [(1, 10), (5, 50)].as_slice());
-    Ok(())
-}
-
-#[test]
-fn a_filter_keeps_what_holds(rt: HostRuntime) -> Result<(), Fail> {
-    let kept = filtered_of(rt.alloc(), &ODD, &ValueAbove { limit: 20 })?;
-    assert_eq!(rt; kept.as_slice(), [(3, 30), (5, 50)].as_slice());
-    Ok(())
+fn a_filter_keeps_what_holds(rt: HostRuntime) {
+    let above = ValueAbove { limit: 20 };
+    let kept = filtered_of(rt.alloc(), &ODD, &above);
+    check(&rt, kept, &[(3, 30), (5, 50)]);
 }

@@ -1,11 +1,10 @@
-//! An index of a few texts. What is expected was counted by hand.
+//! An index of a few texts. What is expected was counted by hand. Where memory is refused, a test ends here.
 use aug_monoid::{NoMemory, Share};
 use fork_join::{Cut, FreeGate};
 use inverted_index::{Added, Hit, Index, Term, TermFault};
 use std::alloc::Global;
 use std::marker::Sync;
 use std::process::Abort;
-use std::test::Fail;
 use std::thread::Threads;
 
 /// Documents in the order in which they are added.
@@ -16,240 +15,230 @@ const TEXTS: [(u64, &[u8]); 4] = [
     (6, b" ,;-"),
 ];
 
-/// The index with a document more.
-fn with_text<R: Threads + Sync>(
-    rt: &R,
-    alloc: Global,
-    index: Index,
-    doc: u64,
-    text: &[u8],
-) -> Result<Index, NoMemory> {
-    match index.add_doc(rt, alloc, &FreeGate, Cut::new(2, 1), doc, text)? {
-        Added::Known => Ok(index),
-        Added::New { index, terms: _ } => Ok(index),
-    }
-}
-
-/// How many different terms a document more has, none where it is known.
-fn count_added<R: Threads + Sync>(
+/// What is told of a document that is added.
+fn added<R: Threads + Abort + Sync>(
     rt: &R,
     alloc: Global,
     index: &Index,
     doc: u64,
     text: &[u8],
-) -> Result<Option<u64>, NoMemory> {
-    match index.add_doc(rt, alloc, &FreeGate, Cut::new(2, 1), doc, text)? {
-        Added::Known => Ok(None),
-        Added::New { index: _, terms } => Ok(Some(terms)),
+) -> Added {
+    let added = index.add_doc(rt, alloc, &FreeGate, Cut::new(2, 1), doc, text);
+    added.expect(rt, "memory")
+}
+
+/// The index with a document more.
+fn with_text<R: Threads + Abort + Sync>(
+    rt: &R,
+    alloc: Global,
+    index: Index,
+    doc: u64,
+    text: &[u8],
+) -> Index {
+    match added(rt, alloc, &index, doc, text) {
+        Added::Known => index,
+        Added::New { index, terms: _ } => index,
+    }
+}
+
+/// How many different terms a document more has, none where it is known.
+fn count_of<R: Threads + Abort + Sync>(
+    rt: &R,
+    alloc: Global,
+    index: &Index,
+    doc: u64,
+    text: &[u8],
+) -> Option<u64> {
+    match added(rt, alloc, index, doc, text) {
+        Added::Known => None,
+        Added::New { index: _, terms } => Some(terms),
     }
 }
 
 /// The index of the texts.
-fn indexed<R: Threads + Sync>(rt: &R, alloc: Global) -> Result<Index, NoMemory> {
+fn indexed<R: Threads + Abort + Sync>(rt: &R, alloc: Global) -> Index {
     let mut index = Index::new();
     for (doc, text) in TEXTS {
-        index = with_text(rt, alloc, index, doc, text)?;
+        index = with_text(rt, alloc, index, doc, text);
     }
-    Ok(index)
+    index
 }
 
-/// What is told of a document that is added to the texts.
-fn count_of<R: Threads + Sync>(
-    rt: &R,
-    alloc: Global,
-    doc: u64,
-    text: &[u8],
-) -> Result<Option<u64>, NoMemory> {
-    let index = indexed(rt, alloc)?;
-    count_added(rt, alloc, &index, doc, text)
+fn term<R: Abort>(rt: &R, alloc: Global, bytes: &[u8]) -> Term {
+    Term::of(alloc, bytes).expect(rt, "a term")
 }
 
-fn term(alloc: Global, bytes: &[u8]) -> Result<Term, NoMemory> {
-    match Term::of(alloc, bytes) {
-        Ok(term) => Ok(term),
-        Err(_) => Err(NoMemory),
-    }
-}
-
-fn terms(alloc: Global, words: &[&[u8]]) -> Result<Vec<Term>, NoMemory> {
+fn terms<R: Abort>(rt: &R, alloc: Global, words: &[&[u8]]) -> Vec<Term> {
     let mut list = Vec::new(alloc);
     for word in words {
-        list.push(term(alloc, word)?)?;
+        list.push(term(rt, alloc, word)).expect(rt, "memory");
     }
-    Ok(list)
+    list
 }
 
-/// Why bytes are no term, none where they are one.
-fn fault(alloc: Global, bytes: &[u8]) -> Option<TermFault> {
-    match Term::of(alloc, bytes) {
-        Ok(_) => None,
-        Err(fault) => Some(fault),
-    }
+/// Whether bytes are no term for want of letters and digits alone.
+fn is_no_term(alloc: Global, bytes: &[u8]) -> bool {
+    matches!(Term::of(alloc, bytes), Err(TermFault::NotTerm))
 }
 
-/// The bytes of a term.
-fn small(alloc: Global, bytes: &[u8]) -> Result<Vec<u8>, NoMemory> {
-    let term = term(alloc, bytes)?;
-    Ok(Vec::from_slice(alloc, term.bytes())?)
+/// Asserts what the bytes of a term are.
+fn assert_small<R: Abort>(rt: &R, alloc: Global, bytes: &[u8], small: &[u8]) {
+    assert_eq!(rt; term(rt, alloc, bytes).bytes(), small);
 }
 
 /// Whether a share of a term is another term.
-fn are_same(alloc: Global, bytes: &[u8], others: &[u8]) -> Result<bool, NoMemory> {
-    let share = term(alloc, bytes)?.share(alloc)?;
-    let other = term(alloc, others)?;
-    Ok(share == other)
+fn are_same<R: Abort>(rt: &R, alloc: Global, bytes: &[u8], others: &[u8]) -> bool {
+    let share = term(rt, alloc, bytes).share(alloc).expect(rt, "memory");
+    share == term(rt, alloc, others)
 }
 
-fn all_of<R: Threads + Sync>(rt: &R, alloc: Global, words: &[&[u8]]) -> Result<Vec<Hit>, NoMemory> {
-    let index = indexed(rt, alloc)?;
-    let terms = terms(alloc, words)?;
-    index.all_of(rt, alloc, &FreeGate, Cut::new(2, 1), &terms)
-}
-
-fn any_of<R: Threads + Sync>(rt: &R, alloc: Global, words: &[&[u8]]) -> Result<Vec<Hit>, NoMemory> {
-    let index = indexed(rt, alloc)?;
-    let terms = terms(alloc, words)?;
-    index.any_of(rt, alloc, &FreeGate, Cut::new(2, 1), &terms)
-}
-
-fn without<R: Threads + Sync>(
-    rt: &R,
-    alloc: Global,
-    has: &[u8],
-    not: &[u8],
-) -> Result<Vec<Hit>, NoMemory> {
-    let index = indexed(rt, alloc)?;
-    let has = term(alloc, has)?;
-    let not = term(alloc, not)?;
-    index.without(rt, alloc, &FreeGate, Cut::new(2, 1), &has, &not)
-}
-
-fn top<R: Threads + Sync>(
-    rt: &R,
-    alloc: Global,
-    k: u64,
-    word: &[u8],
-) -> Result<Vec<Hit>, NoMemory> {
-    let index = indexed(rt, alloc)?;
-    let word = term(alloc, word)?;
-    index.top(alloc, k, &word)
-}
-
-/// How many terms have postings, in a share of the index.
-fn size<R: Threads + Sync>(rt: &R, alloc: Global) -> Result<u64, NoMemory> {
-    let index = indexed(rt, alloc)?.share(alloc)?;
-    Ok(index.map().size())
-}
-
-/// The postings of the term at a place in the order of bytes.
-fn postings_at<R: Threads + Sync>(
-    rt: &R,
-    alloc: Global,
-    place: u64,
-) -> Result<Vec<(u64, u64)>, NoMemory> {
-    let index = indexed(rt, alloc)?;
-    match index.map().select(alloc, place)? {
-        Some((_, postings)) => postings.map().to_vec(alloc),
-        None => Ok(Vec::new(alloc)),
-    }
-}
-
-fn assert_hits(rt: &impl Abort, hits: &[Hit], wanted: &[(u64, u64)]) {
+fn assert_hits<R: Abort>(rt: &R, hits: Result<Vec<Hit>, NoMemory>, wanted: &[(u64, u64)]) {
+    let hits = hits.expect(rt, "memory");
     assert_eq!(rt; hits.len(), wanted.len());
-    for (hit, (doc, weight)) in hits.iter().zip(wanted) {
-        assert_eq!(rt; hit.doc, *doc);
-        assert_eq!(rt; hit.weight, *weight);
+    for (hit, pair) in hits.iter().zip(wanted) {
+        assert_eq!(rt; (hit.doc, hit.weight), *pair);
     }
 }
 
 #[test]
-fn a_term_is_letters_and_digits(rt: HostRuntime) -> Result<(), Fail> {
+fn a_term_is_letters_and_digits(rt: HostRuntime) {
     let alloc = rt.alloc();
-    for bytes in [b"".as_slice(), b"to be", b"caf\xC3\xA9"] {
-        assert_eq!(rt; fault(alloc, bytes), Some(TermFault::NotTerm));
+    assert!(rt; is_no_term(alloc, b""));
+    assert!(rt; is_no_term(alloc, b"to be"));
+    assert!(rt; is_no_term(alloc, b"caf\xC3\xA9"));
+    assert_small(&rt, alloc, b"R2D2", b"r2d2");
+    assert!(rt; are_same(&rt, alloc, b"Not", b"nOT"));
+    assert!(rt; !are_same(&rt, alloc, b"not", b"note"));
+}
+
+/// Documents, and how many terms each has, where it is new.
+const COUNTS: &[(u64, &[u8], Option<u64>)] = &[
+    (9, b"again", None),
+    (6, b"again", None),
+    (0, b"a-b a,A.0", Some(3)),
+    (u64::MAX, b"", Some(0)),
+];
+
+fn assert_counts<R: Threads + Abort + Sync>(rt: &R, alloc: Global, index: &Index) {
+    for (doc, text, count) in COUNTS {
+        assert_eq!(rt; count_of(rt, alloc, index, *doc, text), *count);
     }
-    assert_eq!(rt; small(alloc, b"R2D2")?.as_slice(), b"r2d2".as_slice());
-    assert!(rt; are_same(alloc, b"Not", b"nOT")?);
-    assert!(rt; !are_same(alloc, b"not", b"note")?);
-    Ok(())
 }
 
 #[test]
-fn a_document_is_added_once(rt: HostRuntime) -> Result<(), Fail> {
-    let alloc = rt.alloc();
-    let rows: [(u64, &[u8], Option<u64>); 4] = [
-        (9, b"again", None),
-        (6, b"again", None),
-        (0, b"a-b a,A.0", Some(3)),
-        (u64::MAX, b"", Some(0)),
-    ];
-    for (doc, text, count) in rows {
-        assert_eq!(rt; count_of(&rt, alloc, doc, text)?, count);
-    }
-    assert_eq!(rt; size(&rt, alloc)?, 6);
-    let postings = postings_at(&rt, alloc, 1)?;
-    assert_eq!(rt; postings.as_slice(), [(4, 1), (9, 1)].as_slice());
-    Ok(())
+fn a_document_is_added_once(rt: HostRuntime) {
+    let index = indexed(&rt, rt.alloc());
+    assert_counts(&rt, rt.alloc(), &index);
+}
+
+/// Asserts what the postings of the term at a place in the order of bytes are.
+fn assert_postings<R: Abort>(
+    rt: &R,
+    alloc: Global,
+    index: &Index,
+    place: u64,
+    wanted: &[(u64, u64)],
+) {
+    let found = index.map().select(alloc, place).expect(rt, "memory");
+    let (_, postings) = found.expect(rt, "a term");
+    let list = postings.map().to_vec(alloc).expect(rt, "memory");
+    assert_eq!(rt; list.as_slice(), wanted);
 }
 
 #[test]
-fn documents_that_have_all_terms(rt: HostRuntime) -> Result<(), Fail> {
-    let rows: [(&[&[u8]], &[(u64, u64)]); 4] = [
-        (&[], &[(1, 0), (4, 0), (6, 0), (9, 0)]),
-        (&[b"TO", b"to"], &[(1, 2), (9, 4)]),
-        (&[b"not", b"to"], &[(9, 3)]),
-        (&[b"to", b"absent"], &[]),
-    ];
-    for (words, wanted) in rows {
-        let hits = all_of(&rt, rt.alloc(), words)?;
-        assert_hits(&rt, &hits, wanted);
+fn a_share_has_the_terms_and_their_postings(rt: HostRuntime) {
+    let index = indexed(&rt, rt.alloc());
+    let share = index.share(rt.alloc()).expect(&rt, "memory");
+    assert_eq!(rt; share.map().size(), 6);
+    assert_postings(&rt, rt.alloc(), &share, 1, &[(4, 1), (9, 1)]);
+}
+
+/// Terms, and the documents that have all of them, with their weights.
+const ALL_OF: &[(&[&[u8]], &[(u64, u64)])] = &[
+    (&[], &[(1, 0), (4, 0), (6, 0), (9, 0)]),
+    (&[b"TO", b"to"], &[(1, 2), (9, 4)]),
+    (&[b"not", b"to"], &[(9, 3)]),
+    (&[b"to", b"absent"], &[]),
+];
+
+fn assert_all_of<R: Threads + Abort + Sync>(rt: &R, alloc: Global, index: &Index) {
+    for (words, wanted) in ALL_OF {
+        let terms = terms(rt, alloc, words);
+        let hits = index.all_of(rt, alloc, &FreeGate, Cut::new(2, 1), &terms);
+        assert_hits(rt, hits, wanted);
     }
-    Ok(())
 }
 
 #[test]
-fn documents_that_have_one_of_the_terms(rt: HostRuntime) -> Result<(), Fail> {
-    let rows: [(&[&[u8]], &[(u64, u64)]); 3] = [
-        (&[], &[]),
-        (&[b"be", b"be"], &[(9, 4)]),
-        (
-            &[b"r2d2", b"yet", b"absent", b"to"],
-            &[(1, 2), (4, 1), (9, 2)],
-        ),
-    ];
-    for (words, wanted) in rows {
-        let hits = any_of(&rt, rt.alloc(), words)?;
-        assert_hits(&rt, &hits, wanted);
+fn documents_that_have_all_terms(rt: HostRuntime) {
+    let index = indexed(&rt, rt.alloc());
+    assert_all_of(&rt, rt.alloc(), &index);
+}
+
+/// Terms, and the documents that have one of them, with their weights.
+const ANY_OF: &[(&[&[u8]], &[(u64, u64)])] = &[
+    (&[], &[]),
+    (&[b"be", b"be"], &[(9, 4)]),
+    (
+        &[b"r2d2", b"yet", b"absent", b"to"],
+        &[(1, 2), (4, 1), (9, 2)],
+    ),
+];
+
+fn assert_any_of<R: Threads + Abort + Sync>(rt: &R, alloc: Global, index: &Index) {
+    for (words, wanted) in ANY_OF {
+        let terms = terms(rt, alloc, words);
+        let hits = index.any_of(rt, alloc, &FreeGate, Cut::new(2, 1), &terms);
+        assert_hits(rt, hits, wanted);
     }
-    Ok(())
 }
 
 #[test]
-fn documents_that_have_one_term_and_not_another(rt: HostRuntime) -> Result<(), Fail> {
-    let rows: [(&[u8], &[u8], &[(u64, u64)]); 3] = [
-        (b"Not", b"Yet", &[(9, 1)]),
-        (b"not", b"absent", &[(4, 1), (9, 1)]),
-        (b"not", b"not", &[]),
-    ];
-    for (has, not, wanted) in rows {
-        let hits = without(&rt, rt.alloc(), has, not)?;
-        assert_hits(&rt, &hits, wanted);
+fn documents_that_have_one_of_the_terms(rt: HostRuntime) {
+    let index = indexed(&rt, rt.alloc());
+    assert_any_of(&rt, rt.alloc(), &index);
+}
+
+/// Two terms, and the documents that have the first and not the second, with their weights.
+const WITHOUT: &[(&[u8], &[u8], &[(u64, u64)])] = &[
+    (b"Not", b"Yet", &[(9, 1)]),
+    (b"not", b"absent", &[(4, 1), (9, 1)]),
+    (b"not", b"not", &[]),
+];
+
+fn assert_without<R: Threads + Abort + Sync>(rt: &R, alloc: Global, index: &Index) {
+    for (has, not, wanted) in WITHOUT {
+        let has = term(rt, alloc, has);
+        let not = term(rt, alloc, not);
+        let hits = index.without(rt, alloc, &FreeGate, Cut::new(2, 1), &has, &not);
+        assert_hits(rt, hits, wanted);
     }
-    Ok(())
 }
 
 #[test]
-fn documents_by_falling_weight(rt: HostRuntime) -> Result<(), Fail> {
-    let rows: [(u64, &[u8], &[(u64, u64)]); 5] = [
-        (0, b"to", &[]),
-        (1, b"to", &[(9, 2)]),
-        (9, b"to", &[(9, 2), (1, 1)]),
-        (2, b"not", &[(4, 1), (9, 1)]),
-        (9, b"absent", &[]),
-    ];
-    for (k, word, wanted) in rows {
-        let hits = top(&rt, rt.alloc(), k, word)?;
-        assert_hits(&rt, &hits, wanted);
+fn documents_that_have_one_term_and_not_another(rt: HostRuntime) {
+    let index = indexed(&rt, rt.alloc());
+    assert_without(&rt, rt.alloc(), &index);
+}
+
+/// A term, and so many of its documents by falling weight.
+const TOP: &[(u64, &[u8], &[(u64, u64)])] = &[
+    (0, b"to", &[]),
+    (1, b"to", &[(9, 2)]),
+    (9, b"to", &[(9, 2), (1, 1)]),
+    (2, b"not", &[(4, 1), (9, 1)]),
+    (9, b"absent", &[]),
+];
+
+fn assert_top<R: Abort>(rt: &R, alloc: Global, index: &Index) {
+    for (k, word, wanted) in TOP {
+        let word = term(rt, alloc, word);
+        assert_hits(rt, index.top(alloc, *k, &word), wanted);
     }
-    Ok(())
+}
+
+#[test]
+fn documents_by_falling_weight(rt: HostRuntime) {
+    let index = indexed(&rt, rt.alloc());
+    assert_top(&rt, rt.alloc(), &index);
 }

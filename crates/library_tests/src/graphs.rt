@@ -1,11 +1,11 @@
-//! Small graphs, whose counts and searches were found by hand.
-use aug_monoid::{NoMemory, Share};
+//! Small graphs, whose counts and searches were found by hand. Where memory is refused, a test ends here.
+use aug_monoid::Share;
 use fork_join::{Cut, FreeGate};
-use graph_snap::{Edge, Graph, Neighbours};
+use graph_snap::{Edge, Graph};
 use meeting::Meeting;
 use std::alloc::Global;
 use std::marker::Sync;
-use std::test::Fail;
+use std::process::Abort;
 use std::thread::Threads;
 
 /// A loop at 3, a loop at 1, and an edge that is named twice.
@@ -14,136 +14,118 @@ const ADDED: [(u64, u64); 6] = [(1, 2), (3, 3), (1, 2), (2, 1), (1, 1), (2, 4)];
 /// All edges of 2 and 3, one of them twice, and two that the graph hasn't.
 const CUT: [(u64, u64); 6] = [(2, 1), (3, 3), (9, 9), (2, 1), (2, 4), (1, 5)];
 
-fn edges(alloc: Global, pairs: &[(u64, u64)]) -> Result<Vec<Edge>, NoMemory> {
-    let edges = pairs
-        .iter()
-        .map(|pair| Edge {
-            from: pair.0,
-            to: pair.1,
-        })
-        .collect(alloc)?;
-    Ok(edges)
+fn edges<R: Abort>(rt: &R, alloc: Global, pairs: &[(u64, u64)]) -> Vec<Edge> {
+    let mut list = Vec::new(alloc);
+    for (from, to) in pairs {
+        let edge = Edge {
+            from: *from,
+            to: *to,
+        };
+        list.push(edge).expect(rt, "memory");
+    }
+    list
 }
 
 /// The graph of some edges without some others.
-fn graph_of<R: Threads + Sync>(
+fn graph_of<R: Threads + Abort + Sync>(
     rt: &R,
     alloc: Global,
     added: &[(u64, u64)],
     cut: &[(u64, u64)],
-) -> Result<Graph, NoMemory> {
-    let list = edges(alloc, added)?;
-    let without = edges(alloc, cut)?;
+) -> Graph {
+    let list = edges(rt, alloc, added);
+    let without = edges(rt, alloc, cut);
     let cut = Cut::new(2, 1);
-    let graph = Graph::new().add_edges(rt, alloc, &FreeGate, cut, &list)?;
-    graph.cut_edges(rt, alloc, &FreeGate, cut, &without)
+    let all = Graph::new().add_edges(rt, alloc, &FreeGate, cut, &list);
+    let less = all
+        .expect(rt, "memory")
+        .cut_edges(rt, alloc, &FreeGate, cut, &without);
+    less.expect(rt, "memory")
 }
 
 /// How many edges and vertices there are, and the degrees of 1 and 2.
-fn counts<R: Threads + Sync>(
-    rt: &R,
-    alloc: Global,
-    added: &[(u64, u64)],
-    cut: &[(u64, u64)],
-) -> Result<Vec<u64>, NoMemory> {
-    let graph = graph_of(rt, alloc, added, cut)?;
-    let mut counts = Vec::new(alloc);
-    counts.push(graph.edges())?;
-    counts.push(graph.vertices())?;
-    counts.push(graph.degree(alloc, 1)?)?;
-    counts.push(graph.degree(alloc, 2)?)?;
-    Ok(counts)
+fn counts<R: Abort>(rt: &R, alloc: Global, graph: &Graph) -> (u64, u64, u64, u64) {
+    let first = graph.degree(alloc, 1).expect(rt, "memory");
+    let second = graph.degree(alloc, 2).expect(rt, "memory");
+    (graph.edges(), graph.vertices(), first, second)
 }
 
-fn sizes_of(alloc: Global, entries: &[(u64, Neighbours)]) -> Result<Vec<u64>, NoMemory> {
-    let mut sizes = Vec::new(alloc);
-    for (_, set) in entries {
-        sizes.push(set.map().size())?;
+#[test]
+fn batches_with_loops_and_repeated_edges(rt: HostRuntime) {
+    let all = graph_of(&rt, rt.alloc(), &ADDED, &[]);
+    assert_eq!(rt; counts(&rt, rt.alloc(), &all), (5, 3, 2, 2));
+    let left = graph_of(&rt, rt.alloc(), &ADDED, &CUT);
+    assert_eq!(rt; counts(&rt, rt.alloc(), &left), (2, 1, 2, 0));
+}
+
+/// Asserts what the sizes of a graph's sets are, by vertex.
+fn assert_sizes<R: Abort>(rt: &R, alloc: Global, graph: &Graph, wanted: &[u64]) {
+    let entries = graph.map().to_vec(alloc).expect(rt, "memory");
+    assert_eq!(rt; entries.len(), wanted.len());
+    for (entry, size) in entries.iter().zip(wanted) {
+        assert_eq!(rt; entry.1.map().size(), *size);
     }
-    Ok(sizes)
 }
 
-/// The sizes of the sets of a graph's snapshot, by vertex.
-fn sizes<R: Threads + Sync>(
-    rt: &R,
-    alloc: Global,
-    added: &[(u64, u64)],
-) -> Result<Vec<u64>, NoMemory> {
-    let graph = graph_of(rt, alloc, added, &[])?;
-    let entries = graph.share(alloc)?.map().to_vec(alloc)?;
-    sizes_of(alloc, &entries)
+#[test]
+fn the_sets_of_a_snapshot(rt: HostRuntime) {
+    let graph = graph_of(&rt, rt.alloc(), &ADDED, &[]);
+    let share = graph.share(rt.alloc()).expect(&rt, "memory");
+    assert_sizes(&rt, rt.alloc(), &share, &[2, 2, 1]);
 }
 
-/// What a search finds, as vertices with their distances.
-fn found<R: Threads + Sync>(
+/// Asserts what a search finds, as vertices with their distances.
+fn assert_found<R: Threads + Abort + Sync>(
     rt: &R,
     alloc: Global,
-    added: &[(u64, u64)],
-    cut: &[(u64, u64)],
+    graph: &Graph,
     from: u64,
-) -> Result<Vec<(u64, u64)>, NoMemory> {
-    let graph = graph_of(rt, alloc, added, cut)?;
-    let list = graph.bfs(rt, alloc, &FreeGate, Cut::new(2, 1), from)?;
-    let pairs = list
-        .iter()
-        .map(|reached| (reached.vertex, reached.distance))
-        .collect(alloc)?;
-    Ok(pairs)
+    wanted: &[(u64, u64)],
+) {
+    let list = graph
+        .bfs(rt, alloc, &FreeGate, Cut::new(2, 1), from)
+        .expect(rt, "memory");
+    assert_eq!(rt; list.len(), wanted.len());
+    for (reached, pair) in list.iter().zip(wanted) {
+        assert_eq!(rt; (reached.vertex, reached.distance), *pair);
+    }
+}
+
+const WAYS: &[(u64, u64)] = &[(5, 1), (1, 2), (2, 3), (3, 4), (1, 4), (4, 5), (7, 8)];
+
+const BY_4: &[(u64, u64)] = &[(1, 0), (2, 1), (3, 2), (4, 1), (5, 2)];
+
+const ROUND: &[(u64, u64)] = &[(1, 0), (2, 1), (3, 2), (4, 3), (5, 4)];
+
+#[test]
+fn a_search_by_the_shortest_way(rt: HostRuntime) {
+    let all = graph_of(&rt, rt.alloc(), WAYS, &[]);
+    assert_found(&rt, rt.alloc(), &all, 1, BY_4);
+    let left = graph_of(&rt, rt.alloc(), WAYS, &[(1, 4), (8, 7)]);
+    assert_found(&rt, rt.alloc(), &left, 1, ROUND);
 }
 
 /// From 0 to each of 1 to 500, and from each of these to 501.
-fn fan(alloc: Global) -> Result<Vec<(u64, u64)>, NoMemory> {
+fn fan<R: Abort>(rt: &R, alloc: Global) -> Vec<(u64, u64)> {
     let mut pairs = Vec::new(alloc);
     for spoke in 1..501u64 {
-        pairs.push((0, spoke))?;
-        pairs.push((spoke, 501))?;
+        pairs.push((0, spoke)).expect(rt, "memory");
+        pairs.push((spoke, 501)).expect(rt, "memory");
     }
-    Ok(pairs)
+    pairs
 }
 
 /// How many vertices a search of the fan finds, and whether the halves of a front of 500 met.
-fn found_in_fan<R: Threads + Sync>(rt: &R, alloc: Global) -> Result<(usize, bool), NoMemory> {
-    let pairs = fan(alloc)?;
-    let graph = graph_of(rt, alloc, &pairs, &[])?;
+fn found_in_fan<R: Threads + Abort + Sync>(rt: &R, alloc: Global) -> (usize, bool) {
+    let graph = graph_of(rt, alloc, &fan(rt, alloc), &[]);
     let gate = Meeting::new();
-    let found = graph.bfs(rt, alloc, &gate, Cut::new(2, 500), 0)?;
-    Ok((found.len(), gate.was_met()))
+    let found = graph
+        .bfs(rt, alloc, &gate, Cut::new(2, 500), 0)
+        .expect(rt, "memory");
+    (found.len(), gate.was_met())
 }
 
 #[test]
-fn batches_with_loops_and_repeated_edges(rt: HostRuntime) -> Result<(), Fail> {
-    let all = counts(&rt, rt.alloc(), &ADDED, &[])?;
-    assert_eq!(rt; all.as_slice(), [5, 3, 2, 2].as_slice());
-    let left = counts(&rt, rt.alloc(), &ADDED, &CUT)?;
-    assert_eq!(rt; left.as_slice(), [2, 1, 2, 0].as_slice());
-    Ok(())
-}
-
-#[test]
-fn the_sets_of_a_snapshot(rt: HostRuntime) -> Result<(), Fail> {
-    let sizes = sizes(&rt, rt.alloc(), &ADDED)?;
-    assert_eq!(rt; sizes.as_slice(), [2, 2, 1].as_slice());
-    Ok(())
-}
-
-#[test]
-fn a_search_by_the_shortest_way(rt: HostRuntime) -> Result<(), Fail> {
-    let edges = [(5, 1), (1, 2), (2, 3), (3, 4), (1, 4), (4, 5), (7, 8)];
-    let all = found(&rt, rt.alloc(), &edges, &[], 1)?;
-    assert_eq!(rt;
-        all.as_slice(),
-        [(1, 0), (2, 1), (3, 2), (4, 1), (5, 2)].as_slice()
-    );
-    let left = found(&rt, rt.alloc(), &edges, &[(1, 4), (8, 7)], 1)?;
-    assert_eq!(rt;
-        left.as_slice(),
-        [(1, 0), (2, 1), (3, 2), (4, 3), (5, 4)].as_slice()
-    );
-    Ok(())
-}
-
-#[test]
-fn a_wide_front_is_searched_by_halves_that_meet(rt: HostRuntime) -> Result<(), Fail> {
-    assert_eq!(rt; found_in_fan(&rt, rt.alloc())?, (502, true));
-    Ok(())
+fn a_wide_front_is_searched_by_halves_that_meet(rt: HostRuntime) {
+    assert_eq!(rt; found_in_fan(&rt, rt.alloc()), (502, true));
 }

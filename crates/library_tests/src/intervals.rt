@@ -1,9 +1,9 @@
-//! Each call on a set that has nested intervals, equal ones, and ones that share an end.
+//! Each call on a set that has nested intervals, equal ones, and ones that share an end. Where memory is refused, a
+//! test ends here.
 use aug_monoid::{NoMemory, Pair64, Share};
 use interval_map::Intervals;
 use std::alloc::Global;
 use std::process::Abort;
-use std::test::Fail;
 
 /// Intervals in the order in which they are added, one of them twice.
 const ENDS: [(u64, u64); 7] = [
@@ -16,22 +16,30 @@ const ENDS: [(u64, u64); 7] = [
     (3, 9),
 ];
 
-/// The set of these intervals.
-fn set_of(alloc: Global, ends: &[(u64, u64)]) -> Result<Intervals, NoMemory> {
-    let mut intervals = Intervals::new();
-    for (left, right) in ends {
-        if left <= right {
-            intervals = intervals.add(alloc, *left, *right)?;
-        }
+/// The set with one interval more, if its ends are in order.
+fn with_one<R: Abort>(rt: &R, alloc: Global, intervals: Intervals, ends: (u64, u64)) -> Intervals {
+    let (left, right) = ends;
+    if left <= right {
+        intervals.add(alloc, left, right).expect(rt, "memory")
+    } else {
+        intervals
     }
-    Ok(intervals)
 }
 
-fn assert_hits(rt: &impl Abort, hits: &[Pair64], ends: &[(u64, u64)]) {
+/// The set of the intervals.
+fn all<R: Abort>(rt: &R, alloc: Global) -> Intervals {
+    let mut intervals = Intervals::new();
+    for ends in &ENDS {
+        intervals = with_one(rt, alloc, intervals, *ends);
+    }
+    intervals
+}
+
+fn assert_hits<R: Abort>(rt: &R, hits: Result<Vec<Pair64>, NoMemory>, ends: &[(u64, u64)]) {
+    let hits = hits.expect(rt, "memory");
     assert_eq!(rt; hits.len(), ends.len());
-    for (hit, (left, right)) in hits.iter().zip(ends) {
-        assert_eq!(rt; hit.first, *left);
-        assert_eq!(rt; hit.second, *right);
+    for (hit, pair) in hits.iter().zip(ends) {
+        assert_eq!(rt; (hit.first, hit.second), *pair);
     }
 }
 
@@ -48,19 +56,16 @@ const STABS: &[(u64, &[(u64, u64)])] = &[
     (u64::MAX, &[(7, u64::MAX)]),
 ];
 
-fn assert_stabs(rt: &impl Abort, alloc: Global, intervals: &Intervals) -> Result<(), NoMemory> {
+fn assert_stabs<R: Abort>(rt: &R, alloc: Global, intervals: &Intervals) {
     for (p, ends) in STABS {
-        let hits = intervals.stab(alloc, *p)?;
-        assert_hits(rt, &hits, ends);
+        assert_hits(rt, intervals.stab(alloc, *p), ends);
         assert_eq!(rt; intervals.any(alloc, *p), !ends.is_empty());
     }
-    Ok(())
 }
 
 #[test]
-fn the_intervals_that_have_a_number(rt: HostRuntime) -> Result<(), Fail> {
-    let intervals = set_of(rt.alloc(), &ENDS)?;
-    Ok(assert_stabs(&rt, rt.alloc(), &intervals)?)
+fn the_intervals_that_have_a_number(rt: HostRuntime) {
+    assert_stabs(&rt, rt.alloc(), &all(&rt, rt.alloc()));
 }
 
 /// A range, and the ends of the intervals that meet it.
@@ -72,44 +77,35 @@ const OVERLAPS: &[(u64, u64, &[(u64, u64)])] = &[
     (9, 7, &[(3, 9), (7, u64::MAX)]),
 ];
 
-fn assert_overlaps(rt: &impl Abort, alloc: Global, intervals: &Intervals) -> Result<(), NoMemory> {
+fn assert_overlaps<R: Abort>(rt: &R, alloc: Global, intervals: &Intervals) {
     for (lo, hi, ends) in OVERLAPS {
-        let hits = intervals.overlap(alloc, *lo, *hi)?;
-        assert_hits(rt, &hits, ends);
+        assert_hits(rt, intervals.overlap(alloc, *lo, *hi), ends);
     }
-    Ok(())
 }
 
 #[test]
-fn the_intervals_that_meet_a_range(rt: HostRuntime) -> Result<(), Fail> {
-    let intervals = set_of(rt.alloc(), &ENDS)?;
-    Ok(assert_overlaps(&rt, rt.alloc(), &intervals)?)
+fn the_intervals_that_meet_a_range(rt: HostRuntime) {
+    assert_overlaps(&rt, rt.alloc(), &all(&rt, rt.alloc()));
 }
 
 /// The sizes of a set without an interval, and of that without one that it hasn't.
-fn sizes_without(alloc: Global, intervals: &Intervals) -> Result<(u64, u64), NoMemory> {
-    let smaller = intervals.del(alloc, 3, 3)?;
-    let same = smaller.del(alloc, 3, 4)?;
-    Ok((smaller.size(), same.size()))
-}
-
-/// What a share of a set answers of the number 3.
-fn hits_of_a_share(alloc: Global) -> Result<Vec<Pair64>, NoMemory> {
-    set_of(alloc, &ENDS)?.share(alloc)?.stab(alloc, 3)
+fn sizes_without<R: Abort>(rt: &R, alloc: Global, intervals: &Intervals) -> (u64, u64) {
+    let smaller = intervals.del(alloc, 3, 3).expect(rt, "memory");
+    let same = smaller.del(alloc, 3, 4).expect(rt, "memory");
+    (smaller.size(), same.size())
 }
 
 #[test]
-fn a_removal_leaves_the_set(rt: HostRuntime) -> Result<(), Fail> {
-    let intervals = set_of(rt.alloc(), &ENDS)?;
-    assert_eq!(rt; sizes_without(rt.alloc(), &intervals)?, (5, 5));
-    assert_eq!(rt; intervals.size(), 6);
-    assert_eq!(rt; intervals.map().size(), 6);
-    Ok(())
+fn a_removal_leaves_the_set(rt: HostRuntime) {
+    let intervals = all(&rt, rt.alloc());
+    assert_eq!(rt; sizes_without(&rt, rt.alloc(), &intervals), (5, 5));
+    assert_eq!(rt; (intervals.size(), intervals.map().size()), (6, 6));
 }
 
+const AT_3: &[(u64, u64)] = &[(2, 3), (3, 3), (3, 9)];
+
 #[test]
-fn a_share_has_the_same_intervals(rt: HostRuntime) -> Result<(), Fail> {
-    let hits = hits_of_a_share(rt.alloc())?;
-    assert_hits(&rt, &hits, &[(2, 3), (3, 3), (3, 9)]);
-    Ok(())
+fn a_share_has_the_same_intervals(rt: HostRuntime) {
+    let share = all(&rt, rt.alloc()).share(rt.alloc()).expect(&rt, "memory");
+    assert_hits(&rt, share.stab(rt.alloc(), 3), AT_3);
 }

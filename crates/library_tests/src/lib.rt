@@ -4,6 +4,8 @@
 #[cfg(test)]
 mod components;
 #[cfg(test)]
+mod doc_batches;
+#[cfg(test)]
 mod documents;
 #[cfg(test)]
 mod graphs;

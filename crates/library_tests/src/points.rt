@@ -1,11 +1,10 @@
-//! Points in the plane, with sums and lists that were reckoned by hand.
-use aug_monoid::{Augment, NoMemory, Pair64, Share};
+//! Points in the plane, with sums and lists that were reckoned by hand. Where memory is refused, a test ends here.
+use aug_monoid::{Augment, Pair64, Share};
 use fork_join::{Cut, FreeGate};
-use range_tree::{Places, Point, Points, Rect, Total};
+use range_tree::{Places, Point, Points, Rect, points_cross};
 use std::alloc::Global;
 use std::marker::Sync;
 use std::process::Abort;
-use std::test::Fail;
 use std::thread::Threads;
 
 /// Two columns and two rows of points with their weights, one of them set twice.
@@ -39,31 +38,25 @@ fn rect(ends: (u64, u64, u64, u64)) -> Rect {
     Rect { x1, x2, y1, y2 }
 }
 
-fn listed(alloc: Global, rows: &[(u64, u64, u64)]) -> Result<Vec<Point>, NoMemory> {
-    let points = rows.iter().map(|row| point(*row)).collect(alloc)?;
-    Ok(points)
+fn listed<R: Abort>(rt: &R, alloc: Global, rows: &[(u64, u64, u64)]) -> Vec<Point> {
+    let mut list = Vec::new(alloc);
+    for row in rows {
+        list.push(point(*row)).expect(rt, "memory");
+    }
+    list
 }
 
-fn points_of<R: Threads + Sync>(
-    rt: &R,
-    alloc: Global,
-    rows: &[(u64, u64, u64)],
-) -> Result<Points, NoMemory> {
-    let points = listed(alloc, rows)?;
-    Points::new().add(rt, alloc, &FreeGate, Cut::new(2, 1), &points)
+fn points_of<R: Threads + Abort + Sync>(rt: &R, alloc: Global, rows: &[(u64, u64, u64)]) -> Points {
+    let list = listed(rt, alloc, rows);
+    let points = Points::new().add(rt, alloc, &FreeGate, Cut::new(2, 1), &list);
+    points.expect(rt, "memory")
 }
 
-fn assert_sums<R: Abort>(
-    rt: &R,
-    alloc: Global,
-    points: &Points,
-    rows: &[Row],
-) -> Result<(), NoMemory> {
+fn assert_sums<R: Abort>(rt: &R, alloc: Global, points: &Points, rows: &[Row]) {
     for (ends, sum, count) in rows {
-        let total = points.sum(alloc, rect(*ends))?;
+        let total = points.sum(alloc, rect(*ends)).expect(rt, "memory");
         assert_eq!(rt; (total.sum, total.count), (*sum, *count));
     }
-    Ok(())
 }
 
 fn assert_list<R: Abort>(
@@ -72,10 +65,9 @@ fn assert_list<R: Abort>(
     points: &Points,
     ends: (u64, u64, u64, u64),
     wanted: &[(u64, u64, u64)],
-) -> Result<(), NoMemory> {
-    let found = points.list(alloc, rect(ends))?;
-    assert_eq!(rt; found, listed(alloc, wanted)?);
-    Ok(())
+) {
+    let found = points.list(alloc, rect(ends)).expect(rt, "memory");
+    assert!(rt; found == listed(rt, alloc, wanted));
 }
 
 const SUMS: &[Row] = &[
@@ -87,33 +79,45 @@ const SUMS: &[Row] = &[
 ];
 
 #[test]
-fn sums_of_columns_and_rows(rt: HostRuntime) -> Result<(), Fail> {
-    let points = points_of(&rt, rt.alloc(), &FIVE)?;
-    assert_eq!(rt; points.size(), 5);
-    assert_eq!(rt; points.map().size(), 5);
-    Ok(assert_sums(&rt, rt.alloc(), &points, SUMS)?)
+fn sums_of_columns_and_rows(rt: HostRuntime) {
+    let points = points_of(&rt, rt.alloc(), &FIVE);
+    assert_eq!(rt; (points.size(), points.map().size()), (5, 5));
+    assert_sums(&rt, rt.alloc(), &points, SUMS);
 }
 
+const LOW: &[(u64, u64, u64)] = &[(1, 1, 10), (1, 2, 20), (2, 1, 30)];
+
 #[test]
-fn lists_are_by_x_and_then_y(rt: HostRuntime) -> Result<(), Fail> {
-    let points = points_of(&rt, rt.alloc(), &FIVE)?;
-    let wanted = [(1, 1, 10), (1, 2, 20), (2, 1, 30)];
-    assert_list(&rt, rt.alloc(), &points, (1, 2, 0, 2), &wanted)?;
-    Ok(assert_list(&rt, rt.alloc(), &points, (2, 1, 0, 9), &[])?)
+fn lists_are_by_x_and_then_y(rt: HostRuntime) {
+    let points = points_of(&rt, rt.alloc(), &FIVE);
+    assert_list(&rt, rt.alloc(), &points, (1, 2, 0, 2), LOW);
+    assert_list(&rt, rt.alloc(), &points, (2, 1, 0, 9), &[]);
 }
 
 /// The points without the one at (1, 2), and without one at (9, 9), which isn't there.
-fn fewer<R: Threads + Sync>(rt: &R, alloc: Global, points: &Points) -> Result<Points, NoMemory> {
+fn fewer<R: Threads + Abort + Sync>(rt: &R, alloc: Global, points: &Points) -> Points {
     let places = [(1, 2), (9, 9)].map(|(first, second)| Pair64 { first, second });
-    points.del(rt, alloc, &FreeGate, Cut::new(2, 1), &places)
+    let fewer = points.del(rt, alloc, &FreeGate, Cut::new(2, 1), &places);
+    fewer.expect(rt, "memory")
+}
+
+const AFTER: &[Row] = &[((0, 9, 0, 9), 130, 4)];
+
+const BEFORE: &[Row] = &[((0, 9, 0, 9), 150, 5)];
+
+#[test]
+fn removed_points_leave_the_others(rt: HostRuntime) {
+    let points = points_of(&rt, rt.alloc(), &FIVE);
+    let left = fewer(&rt, rt.alloc(), &points);
+    assert_sums(&rt, rt.alloc(), &left, AFTER);
+    assert_sums(&rt, rt.alloc(), &points, BEFORE);
 }
 
 #[test]
-fn removed_points_leave_the_others(rt: HostRuntime) -> Result<(), Fail> {
-    let points = points_of(&rt, rt.alloc(), &FIVE)?;
-    let left = fewer(&rt, rt.alloc(), &points)?;
-    assert_sums(&rt, rt.alloc(), &left, &[((0, 9, 0, 9), 130, 4)])?;
-    Ok(assert_sums(&rt, rt.alloc(), &points, &[((0, 9, 0, 9), 150, 5)])?)
+fn a_share_of_points_has_their_sum(rt: HostRuntime) {
+    let points = points_of(&rt, rt.alloc(), &FIVE);
+    let share = points.share(rt.alloc()).expect(&rt, "memory");
+    assert_sums(&rt, rt.alloc(), &share, BEFORE);
 }
 
 const CORNER_SUMS: &[Row] = &[
@@ -122,68 +126,84 @@ const CORNER_SUMS: &[Row] = &[
     ((0, u64::MAX, u64::MAX, u64::MAX), u64::MAX, 2),
 ];
 
+const LAST_CORNER: &[(u64, u64, u64)] = &[(u64::MAX, u64::MAX, 3)];
+
 #[test]
-fn sums_saturate_at_the_ends_of_the_plane(rt: HostRuntime) -> Result<(), Fail> {
-    let points = points_of(&rt, rt.alloc(), &CORNERS)?;
-    assert_sums(&rt, rt.alloc(), &points, CORNER_SUMS)?;
+fn sums_saturate_at_the_ends_of_the_plane(rt: HostRuntime) {
+    let points = points_of(&rt, rt.alloc(), &CORNERS);
+    assert_sums(&rt, rt.alloc(), &points, CORNER_SUMS);
     let most = u64::MAX;
-    Ok(assert_list(
+    assert_list(
         &rt,
         rt.alloc(),
         &points,
         (most, most, most, most),
-        &[(most, most, 3)],
-    )?)
+        LAST_CORNER,
+    );
 }
 
 /// A square of 100 columns and 100 rows of points whose weights are 1.
-fn square(alloc: Global) -> Result<Vec<(u64, u64, u64)>, NoMemory> {
+fn square<R: Abort>(rt: &R, alloc: Global) -> Vec<(u64, u64, u64)> {
     let mut rows = Vec::new(alloc);
     for place in 0..10000 {
-        rows.push((place / 100, place % 100, 1))?;
+        rows.push((place / 100, place % 100, 1))
+            .expect(rt, "memory");
     }
-    Ok(rows)
+    rows
 }
+
+const INNER: &[Row] = &[((10, 39, 20, 79), 1800, 1800)];
 
 #[test]
-fn a_rectangle_of_a_square_of_10000_points(rt: HostRuntime) -> Result<(), Fail> {
-    let rows = square(rt.alloc())?;
-    let points = points_of(&rt, rt.alloc(), &rows)?;
-    assert_sums(&rt, rt.alloc(), &points, &[((10, 39, 20, 79), 1800, 1800)])?;
-    let found = points.list(rt.alloc(), rect((10, 39, 20, 79)))?;
-    assert_eq!(rt; found.len(), 1800);
-    Ok(())
-}
-
-/// The total of the points, from a share of them.
-fn shared_total<R: Threads + Sync>(rt: &R, alloc: Global) -> Result<Total, NoMemory> {
-    let points = points_of(rt, alloc, &FIVE)?.share(alloc)?;
-    points.sum(alloc, rect((0, 9, 0, 9)))
-}
-
-#[test]
-fn a_share_of_points_has_their_sum(rt: HostRuntime) -> Result<(), Fail> {
-    let total = Total { sum: 150, count: 5 };
-    assert_eq!(rt; shared_total(&rt, rt.alloc())?, total);
-    Ok(())
+fn a_rectangle_of_a_square_of_10000_points(rt: HostRuntime) {
+    let points = points_of(&rt, rt.alloc(), &square(&rt, rt.alloc()));
+    assert_sums(&rt, rt.alloc(), &points, INNER);
+    let found = points.list(rt.alloc(), rect((10, 39, 20, 79)));
+    assert!(rt; found.expect(&rt, "memory").len() == 1800);
 }
 
 /// The row of a point, from a share of its rows.
-fn shared_row(alloc: Global) -> Result<Option<(Pair64, u64)>, NoMemory> {
+fn shared_row<R: Abort>(rt: &R, alloc: Global) -> Option<(Pair64, u64)> {
     let place = Pair64 {
         first: 4,
         second: 7,
     };
-    let rows = Places::base(alloc, &place, &8)?.share(alloc)?;
-    rows.map().select(alloc, 0)
+    let rows = Places::base(alloc, &place, &8).expect(rt, "memory");
+    let share = rows.share(alloc).expect(rt, "memory");
+    share.map().select(alloc, 0).expect(rt, "memory")
 }
 
 #[test]
-fn a_share_of_rows_has_their_point(rt: HostRuntime) -> Result<(), Fail> {
+fn a_share_of_rows_has_their_point(rt: HostRuntime) {
     let row = Pair64 {
         first: 7,
         second: 4,
     };
-    assert_eq!(rt; shared_row(rt.alloc())?, Some((row, 8)));
-    Ok(())
+    assert_eq!(rt; shared_row(&rt, rt.alloc()), Some((row, 8)));
+}
+
+/// The first and the last point by rows, and how many there are.
+type Ends = (Option<(Pair64, u64)>, Option<(Pair64, u64)>, u64);
+
+fn ends_by_rows<R: Abort>(rt: &R, alloc: Global, points: &Points) -> Option<Ends> {
+    let Some(rows) = points.rows() else {
+        return None;
+    };
+    points_cross(points, rows);
+    let number = rows.map().size();
+    let first = rows.map().select(alloc, 0).expect(rt, "memory");
+    let last = rows.map().select(alloc, number.saturating_sub(1));
+    Some((first, last.expect(rt, "memory"), number))
+}
+
+fn row(first: u64, second: u64, weight: u64) -> Option<(Pair64, u64)> {
+    Some((Pair64 { first, second }, weight))
+}
+
+#[test]
+fn the_points_stand_by_rows_too(rt: HostRuntime) {
+    let points = points_of(&rt, rt.alloc(), &FIVE);
+    let ends = (row(1, 1, 10), row(5, 1, 50), 5);
+    assert_eq!(rt; ends_by_rows(&rt, rt.alloc(), &points), Some(ends));
+    assert_eq!(rt; ends_by_rows(&rt, rt.alloc(), &Points::new()), None);
 }

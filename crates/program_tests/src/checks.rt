@@ -1,7 +1,6 @@
 //! The tool check through the program: verdicts worked by hand, and inputs without a text.
 use crate::programs::{Row, check_all};
 use pam_top::Status;
-use std::test::Fail;
 
 const VERDICTS: &[Row] = &[
     // the read may see the batch of its round, or not
@@ -61,8 +60,8 @@ const VERDICTS: &[Row] = &[
 ];
 
 #[test]
-fn verdicts_on_texts_of_serve(rt: HostRuntime) -> Result<(), Fail> {
-    check_all(&rt, rt.alloc(), VERDICTS, Status::Ok)
+fn verdicts_on_texts_of_serve(rt: HostRuntime) {
+    check_all(&rt, rt.alloc(), VERDICTS, Status::Ok);
 }
 
 /// Texts of every fault: of the form, and of each point, alone and before others.
@@ -191,8 +190,8 @@ const FAULTS: &[Row] = &[
 ];
 
 #[test]
-fn the_least_point_that_fails(rt: HostRuntime) -> Result<(), Fail> {
-    check_all(&rt, rt.alloc(), FAULTS, Status::Ok)
+fn the_least_point_that_fails(rt: HostRuntime) {
+    check_all(&rt, rt.alloc(), FAULTS, Status::Ok);
 }
 
 const BAD: &[Row] = &[
@@ -212,6 +211,6 @@ const BAD: &[Row] = &[
 ];
 
 #[test]
-fn bad_records_and_missing_run_lines(rt: HostRuntime) -> Result<(), Fail> {
-    check_all(&rt, rt.alloc(), BAD, Status::BadRecord)
+fn bad_records_and_missing_run_lines(rt: HostRuntime) {
+    check_all(&rt, rt.alloc(), BAD, Status::BadRecord);
 }

@@ -10,7 +10,6 @@ use std::alloc::Global;
 use std::marker::Sync;
 use std::process::Abort;
 use std::sync::Wait;
-use std::test::Fail;
 use std::thread::Threads;
 
 /// A tool, its input, and the text that it must give.
@@ -39,35 +38,63 @@ fn sound_edge<'a>(piece: usize) -> Edge<'a>
     }
 }
 
-fn words_of(alloc: Global, words: &[&str]) -> Result<Vec<String>, Fail> {
+fn words_of<R: Abort>(rt: &R, alloc: Global, words: &[&str]) -> Vec<String> {
     let mut list = Vec::new(alloc);
     for word in words {
-        list.push(String::from_str(alloc, word)?)?;
+        let word = String::from_str(alloc, word).expect(rt, "memory");
+        list.push(word).expect(rt, "memory");
     }
-    Ok(list)
+    list
 }
 
-/// Runs the program, and answers its status and what it wrote.
+fn source_of<R: Abort>(rt: &R, alloc: Global, input: &[u8], edge: &Edge) -> MemSource
+    requires { 1 ≤ edge.now.piece }
+{
+    let bytes = Vec::from_slice(alloc, input).expect(rt, "memory");
+    let fails = Vec::from_slice(alloc, edge.reads).expect(rt, "memory");
+    MemSource::new(bytes, edge.piece, fails)
+}
+
+fn sink_of<R: Abort>(rt: &R, alloc: Global, edge: &Edge) -> MemSink
+    requires { 1 ≤ edge.now.piece }
+{
+    let fails = Vec::from_slice(alloc, edge.writes).expect(rt, "memory");
+    MemSink::new(alloc, 1000, edge.piece, fails).expect(rt, "memory")
+}
+
+/// Runs the program, and answers its status and what it wrote. Where memory for the run is refused, the test ends here.
 pub(crate) fn run(
-    rt: &(impl Threads + Wait + Sync),
+    rt: &(impl Abort + Threads + Wait + Sync),
     alloc: Global,
     words: &[&str],
     input: &[u8],
     edge: &Edge,
-) -> Result<(Status, Vec<u8>), Fail>
+) -> (Status, Vec<u8>)
     requires { 1 ≤ edge.now.piece }
 {
-    let list = words_of(alloc, words)?;
-    let bytes = Vec::from_slice(alloc, input)?;
-    let mut source = MemSource::new(bytes, edge.piece, Vec::from_slice(alloc, edge.reads)?);
-    let mut sink = MemSink::new(
-        alloc,
-        1000,
-        edge.piece,
-        Vec::from_slice(alloc, edge.writes)?,
-    )?;
+    let list = words_of(rt, alloc, words);
+    let mut source = source_of(rt, alloc, input, edge);
+    let mut sink = sink_of(rt, alloc, edge);
     let status = pam(rt, alloc, &list, &mut source, &mut sink, &FreeGate);
-    Ok((status, Vec::from_slice(alloc, sink.written())?))
+    let text = Vec::from_slice(alloc, sink.written()).expect(rt, "memory");
+    (status, text)
+}
+
+/// Asserts what a run ends with and writes.
+fn assert_run(
+    rt: &(impl Abort + Threads + Wait + Sync),
+    alloc: Global,
+    words: &[&str],
+    input: &[u8],
+    edge: &Edge,
+    status: Status,
+    wanted: &[u8],
+)
+    requires { 1 ≤ edge.now.piece }
+{
+    let (end, text) = run(rt, alloc, words, input, edge);
+    assert_eq!(rt; end, status);
+    assert_eq!(rt; text.as_slice(), wanted);
 }
 
 /// Runs a row in pieces of so many bytes on so many workers.
@@ -78,15 +105,12 @@ fn check(
     status: Status,
     piece: usize,
     workers: &'static str,
-) -> Result<(), Fail>
+)
     requires { 1 ≤ piece }
 {
     let (tool, input, wanted) = row;
     let words = ["--workers", workers, "--grain", "1", tool];
-    let (end, text) = run(rt, alloc, &words, input, &sound_edge(piece))?;
-    assert_eq!(rt; end, status);
-    assert_eq!(rt; text.as_slice(), wanted);
-    Ok(())
+    assert_run(rt, alloc, &words, input, &sound_edge(piece), status, wanted);
 }
 
 /// Runs each row in pieces of 1 byte on one worker, and in pieces of 7 bytes on many.
@@ -95,12 +119,11 @@ pub(crate) fn check_all(
     alloc: Global,
     rows: &[Row],
     status: Status,
-) -> Result<(), Fail> {
+) {
     for row in rows {
-        check(rt, alloc, *row, status, 1, "1")?;
-        check(rt, alloc, *row, status, 7, "64")?;
+        check(rt, alloc, *row, status, 1, "1");
+        check(rt, alloc, *row, status, 7, "64");
     }
-    Ok(())
 }
 
 /// Inputs of the tool map, and what is replied to them.
@@ -144,8 +167,8 @@ const INPUTS: &[Row] = &[
 ];
 
 #[test]
-fn replies_to_an_input(rt: HostRuntime) -> Result<(), Fail> {
-    check_all(&rt, rt.alloc(), INPUTS, Status::Ok)
+fn replies_to_an_input(rt: HostRuntime) {
+    check_all(&rt, rt.alloc(), INPUTS, Status::Ok);
 }
 
 /// Inputs that have each verb of the tool map, and what is replied to them.
@@ -195,8 +218,8 @@ const VERBS: &[Row] = &[
 ];
 
 #[test]
-fn replies_to_each_verb(rt: HostRuntime) -> Result<(), Fail> {
-    check_all(&rt, rt.alloc(), VERBS, Status::Ok)
+fn replies_to_each_verb(rt: HostRuntime) {
+    check_all(&rt, rt.alloc(), VERBS, Status::Ok);
 }
 
 /// Inputs of the other tools, and what is replied to them.
@@ -264,25 +287,30 @@ const TOOLS: &[Row] = &[
 ];
 
 #[test]
-fn replies_of_the_other_tools(rt: HostRuntime) -> Result<(), Fail> {
-    check_all(&rt, rt.alloc(), TOOLS, Status::Ok)
+fn replies_of_the_other_tools(rt: HostRuntime) {
+    check_all(&rt, rt.alloc(), TOOLS, Status::Ok);
 }
 
+const SAMPLE_OF_1: &[u8] =
+    b"ok,1\nok,1\nok,1\nok,1\nok,0\naug,527343,527343\naug,420705,420705\naug,0,0\n";
+
 #[test]
-fn the_sample_reads_nothing(rt: HostRuntime) -> Result<(), Fail> {
+fn the_sample_reads_nothing(rt: HostRuntime) {
     let edge = Edge {
         piece: 7,
         reads: &[1],
         writes: &[],
     };
     let words = ["--seed", "0", "--size", "1", "sample"];
-    let (status, text) = run(&rt, rt.alloc(), &words, EXAMPLE, &edge)?;
-    assert_eq!(rt; status, Status::Ok);
-    assert_eq!(rt;
-        text.as_slice(),
-        b"ok,1\nok,1\nok,1\nok,1\nok,0\naug,527343,527343\naug,420705,420705\naug,0,0\n".as_slice()
+    assert_run(
+        &rt,
+        rt.alloc(),
+        &words,
+        EXAMPLE,
+        &edge,
+        Status::Ok,
+        SAMPLE_OF_1,
     );
-    Ok(())
 }
 
 /// Inputs with a bad record, and the line that names the first one.
@@ -302,6 +330,11 @@ const FAULTS: &[Row] = &[
         b"error,1,number\n",
     ),
     ("map", b"sum,0,,9\n", b"error,1,number\n"),
+    ("map", b"put,0,,1\n", b"error,1,number\n"),
+    ("map", b"put,16,x,1\n", b"error,1,register\n"),
+    ("map", b"put,0,x,1,2\n", b"error,1,fields\n"),
+    ("map", b"build,0,1\n", b"error,1,fields\n"),
+    ("map", b"mput,0\n", b"error,1,fields\n"),
     ("seq", b"size,0\nat,16,x\n", b"error,2,register\n"),
     ("seq", b"push,0,1,x\n", b"error,1,number\n"),
     ("interval", b"size\nadd,4,2\n", b"error,2,interval\n"),
@@ -315,8 +348,8 @@ const FAULTS: &[Row] = &[
 ];
 
 #[test]
-fn the_line_of_the_first_bad_record(rt: HostRuntime) -> Result<(), Fail> {
-    check_all(&rt, rt.alloc(), FAULTS, Status::BadRecord)
+fn the_line_of_the_first_bad_record(rt: HostRuntime) {
+    check_all(&rt, rt.alloc(), FAULTS, Status::BadRecord);
 }
 
 const LAWFUL: &[&[&str]] = &[
@@ -346,23 +379,20 @@ fn check_words(
     lists: &[&[&str]],
     status: Status,
     wanted: &[u8],
-) -> Result<(), Fail> {
+) {
     for words in lists {
-        let (end, text) = run(rt, alloc, words, EXAMPLE, &sound_edge(7))?;
-        assert_eq!(rt; end, status);
-        assert_eq!(rt; text.as_slice(), wanted);
+        assert_run(rt, alloc, words, EXAMPLE, &sound_edge(7), status, wanted);
     }
-    Ok(())
 }
 
 #[test]
-fn lawful_words(rt: HostRuntime) -> Result<(), Fail> {
-    check_words(&rt, rt.alloc(), LAWFUL, Status::Ok, REPLIES)
+fn lawful_words(rt: HostRuntime) {
+    check_words(&rt, rt.alloc(), LAWFUL, Status::Ok, REPLIES);
 }
 
 #[test]
-fn words_that_are_not_lawful(rt: HostRuntime) -> Result<(), Fail> {
-    check_words(&rt, rt.alloc(), UNLAWFUL, Status::Usage, b"")
+fn words_that_are_not_lawful(rt: HostRuntime) {
+    check_words(&rt, rt.alloc(), UNLAWFUL, Status::Usage, b"");
 }
 
 /// Runs the example in pieces of so many bytes, where these calls fail.
@@ -374,7 +404,7 @@ fn check_failing(
     writes: &[u64],
     status: Status,
     wanted: &[u8],
-) -> Result<(), Fail>
+)
     requires { 1 ≤ piece }
 {
     let edge = Edge {
@@ -382,19 +412,16 @@ fn check_failing(
         reads,
         writes,
     };
-    let (end, text) = run(rt, alloc, &["map"], EXAMPLE, &edge)?;
-    assert_eq!(rt; end, status);
-    assert_eq!(rt; text.as_slice(), wanted);
-    Ok(())
+    assert_run(rt, alloc, &["map"], EXAMPLE, &edge, status, wanted);
 }
 
 #[test]
-fn each_read_that_may_fail(rt: HostRuntime) -> Result<(), Fail> {
+fn each_read_that_may_fail(rt: HostRuntime) {
     // 29 bytes by 8 are four reads, and the fifth finds the end
     for call in 1..6u64 {
-        check_failing(&rt, rt.alloc(), 8, &[call], &[], Status::ReadFault, b"")?;
+        check_failing(&rt, rt.alloc(), 8, &[call], &[], Status::ReadFault, b"");
     }
-    check_failing(&rt, rt.alloc(), 8, &[6], &[], Status::Ok, REPLIES)
+    check_failing(&rt, rt.alloc(), 8, &[6], &[], Status::Ok, REPLIES);
 }
 
 // 23 bytes by 8 are three writes
@@ -406,27 +433,28 @@ const WRITES: &[(u64, Status, &[u8])] = &[
 ];
 
 #[test]
-fn each_write_that_may_fail(rt: HostRuntime) -> Result<(), Fail> {
+fn each_write_that_may_fail(rt: HostRuntime) {
     for (call, status, taken) in WRITES {
-        check_failing(&rt, rt.alloc(), 8, &[], &[*call], *status, taken)?;
+        check_failing(&rt, rt.alloc(), 8, &[], &[*call], *status, taken);
     }
-    check_failing(&rt, rt.alloc(), 1, &[], &[3], Status::WriteFault, b"ok")
+    check_failing(&rt, rt.alloc(), 1, &[], &[3], Status::WriteFault, b"ok");
 }
 
 #[test]
-fn the_plain_map(rt: HostRuntime) -> Result<(), Fail> {
+fn the_plain_map(rt: HostRuntime) {
     let mut map = SortedMap::empty(rt.alloc());
-    map.put(5, 10)?;
-    map.put(3, 30)?;
-    map.put(5, 11)?;
-    assert_eq!(rt; map.size(), 2);
-    assert_eq!(rt; map.get(5), Some(11));
-    assert_eq!(rt; map.get(4), None);
+    map.put(5, 10).expect(&rt, "memory");
+    map.put(3, 30).expect(&rt, "memory");
+    map.put(5, 11).expect(&rt, "memory");
+    assert!(rt; map.size() == 2 && map.get(5) == Some(11) && map.get(4).is_none());
     let totals = Totals {
         sum: 41,
         greatest: 30,
     };
     assert_eq!(rt; map.aug_range(3, 5), totals);
+}
+
+#[test]
+fn a_fault_of_a_write_has_the_code_6(rt: HostRuntime) {
     assert_eq!(rt; Status::WriteFault.code(), 6);
-    Ok(())
 }

@@ -86,6 +86,14 @@ const FAULTS: &[Row] = &[
     (b"serve,1\nr,0,max\n", &[b"error,2,op\n"]),
     (b"serve,1\nr,0,get,01\n", &[b"error,2,number\n"]),
     (b"serve,1\nround\nserve,1\n", &[b"error,3,verb\n"]),
+    (b"b,0,put,1,1\n", &[b"error,1,verb\n"]),
+    (b"serve,1\nserve,1\n", &[b"error,2,verb\n"]),
+    (b"serve,1\nb,1,frob\n", &[b"error,2,caller\n"]),
+    (b"serve,1\nb,0,put,01\n", &[b"error,2,fields\n"]),
+    (b"serve,1\nb,0,put,01,1\n", &[b"error,2,number\n"]),
+    (b"serve,1\nr,0,frob\n", &[b"error,2,op\n"]),
+    (b"serve,1\nr,0,get\n", &[b"error,2,fields\n"]),
+    (b"serve,1\nround,1\n", &[b"error,2,fields\n"]),
 ];
 
 /// Inputs of gserve without a bad record.

@@ -1,9 +1,9 @@
-//! Operations on a plain sorted list, and lists of operations by chance.
+//! Operations on a plain sorted list, and lists of operations by chance. Where memory is refused, a test ends here.
 ghost use Rattle.std.specs.Prelude.{◌<◌};
 
-use aug_monoid::NoMemory;
 use served_map::Op;
 use std::alloc::Global;
+use std::process::Abort;
 
 pub(crate) type Entries = Vec<(u64, u64)>;
 
@@ -67,40 +67,40 @@ impl Chance {
     }
 
     /// So many operations, none of which is a wipe.
-    pub(crate) fn ops_without_wipes(
+    pub(crate) fn ops_without_wipes<R: Abort>(
         &mut self,
+        rt: &R,
         alloc: Global,
         count: u64,
-    ) -> Result<Vec<Op>, NoMemory> {
+    ) -> Vec<Op> {
         let mut ops = Vec::new(alloc);
         for _turn in 0..count {
             let op = self.op();
             if !matches!(op, Op::Wipe { lo: _, hi: _ }) {
-                ops.push(op)?;
+                ops.push(op).expect(rt, "memory");
             }
         }
-        Ok(ops)
+        ops
     }
 
     /// So many operations.
-    pub(crate) fn ops(&mut self, alloc: Global, count: u64) -> Result<Vec<Op>, NoMemory> {
+    pub(crate) fn ops<R: Abort>(&mut self, rt: &R, alloc: Global, count: u64) -> Vec<Op> {
         let mut ops = Vec::new(alloc);
         for _turn in 0..count {
-            ops.push(self.op())?;
+            ops.push(self.op()).expect(rt, "memory");
         }
-        Ok(ops)
+        ops
     }
 }
 
 /// The list with a value at a key.
-fn set(list: &mut Entries, key: u64, val: u64) -> Result<(), NoMemory> {
+fn set<R: Abort>(rt: &R, list: &mut Entries, key: u64, val: u64) {
     let at = list.partition_point(|entry| entry.0 < key);
     if at < list.len() && list[at].0 == key {
         list[at].1 = val;
     } else {
-        list.insert(at, (key, val))?;
+        list.insert(at, (key, val)).expect(rt, "memory");
     }
-    Ok(())
 }
 
 /// The value of a key in a list.
@@ -114,31 +114,24 @@ fn value_in(list: &Entries, key: u64) -> Option<u64> {
 }
 
 /// Changes the list as an operation does.
-fn step(list: &mut Entries, op: &Op) -> Result<(), NoMemory> {
+fn step<R: Abort>(rt: &R, list: &mut Entries, op: &Op) {
     match *op {
-        Op::Put { key, val } => set(list, key, val),
-        Op::Del { key } => {
-            list.retain(|entry| entry.0 != key);
-            Ok(())
-        }
+        Op::Put { key, val } => set(rt, list, key, val),
+        Op::Del { key } => list.retain(|entry| entry.0 != key),
         Op::Add { key, val } => {
             let sum = match value_in(list, key) {
                 None => val,
                 Some(old) => old.saturating_add(val),
             };
-            set(list, key, sum)
+            set(rt, list, key, sum);
         }
-        Op::Wipe { lo, hi } => {
-            list.retain(|entry| entry.0 < lo || hi < entry.0);
-            Ok(())
-        }
+        Op::Wipe { lo, hi } => list.retain(|entry| entry.0 < lo || hi < entry.0),
     }
 }
 
 /// Changes the list as operations do, one after another.
-pub(crate) fn apply_plainly(list: &mut Entries, ops: &[Op]) -> Result<(), NoMemory> {
+pub(crate) fn apply_plainly<R: Abort>(rt: &R, list: &mut Entries, ops: &[Op]) {
     for op in ops {
-        step(list, op)?;
+        step(rt, list, op);
     }
-    Ok(())
 }

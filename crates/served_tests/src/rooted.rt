@@ -1,22 +1,28 @@
-//! A root of a served map, with one reader.
+//! A root of a served map, with one reader. Where memory is refused, the test ends here.
 ghost use Rattle.std.specs.Prelude.{◌≡◌, IfOk};
+ghost use Rattle.version_root.specs.Public.{IsPrefix};
 
 use aug_monoid::NoMemory;
 use fork_join::{Cut, FreeGate};
 use served_map::{Op, Served};
 use std::alloc::Global;
 use std::marker::Sync;
+use std::process::Abort;
 use std::sync::Wait;
-use std::test::Fail;
 use std::thread::Threads;
 use version_root::{Batch, Entry, Reader, Version, Writer, start};
 
-/// A version's number and its entries.
-type Told = (u64, Vec<(u64, u64)>);
-
-fn told(alloc: Global, version: &Version<Served>) -> Result<Told, NoMemory> {
-    let entries = version.state().map().to_vec(alloc)?;
-    Ok((version.number(), entries))
+/// Asserts what a version's number and its entries are.
+fn assert_told<R: Abort>(
+    rt: &R,
+    alloc: Global,
+    version: &Version<Served>,
+    number: u64,
+    wanted: &[(u64, u64)],
+) {
+    let entries = version.state().map().to_vec(alloc).expect(rt, "memory");
+    assert_eq!(rt; entries.as_slice(), wanted);
+    assert!(rt; version.number() == number);
 }
 
 /// A root of the map without entries.
@@ -28,64 +34,84 @@ fn one_reader(alloc: Global) -> Result<(Writer<Served>, Reader<Served>), NoMemor
     Ok((writer, reader))
 }
 
-/// The writer publishes its version with one more entry, which sets the value at 1 to 10.
-fn put_ten<R: Threads + Wait + Sync>(
-    rt: &R,
-    alloc: Global,
-    writer: &mut Writer<Served>,
-) -> Result<(), NoMemory>
-    ensures { writer.new.root ≡ writer.old.root }
+fn two_ends<R: Abort>(rt: &R, alloc: Global) -> (Writer<Served>, Reader<Served>)
+    ensures { result.1.root ≡ result.0.root }
 {
-    let batch = Batch::new(
-        alloc,
-        Vec::from_slice(alloc, &[Op::Put { key: 1, val: 10 }])?,
-    )?;
-    let entry = Entry {
+    one_reader(alloc).expect(rt, "memory")
+}
+
+/// An entry that sets the value at 1 to 10.
+fn ten<R: Abort>(rt: &R, alloc: Global) -> Entry<Op> {
+    let ops = Vec::from_slice(alloc, &[Op::Put { key: 1, val: 10 }]).expect(rt, "memory");
+    Entry {
         caller: 0,
         tag: 0,
-        batch,
-    };
-    let version = writer
-        .current()
-        .extend(rt, alloc, &FreeGate, Cut::new(1, 1024), &[entry])?;
-    writer.publish(rt, alloc, version)
+        batch: Batch::new(alloc, ops).expect(rt, "memory"),
+    }
 }
 
-/// What a reader finds after it is told of a version, by either call, and what the version that it held before still has.
-fn found<R: Threads + Wait + Sync>(
+/// The version with one more entry.
+fn longer<R: Threads + Abort + Sync>(
     rt: &R,
     alloc: Global,
-    mut writer: Writer<Served>,
-    mut reader: Reader<Served>,
-) -> Result<(Told, Told, Told), NoMemory>
-    requires { reader.root ≡ writer.root }
+    version: &Version<Served>,
+) -> Version<Served>
+    ensures base { result.base ≡ version.now.base }
+    ensures grows { IsPrefix version.now.journal result.journal }
 {
-    let held = reader.snapshot(rt, alloc)?;
-    put_ten(rt, alloc, &mut writer)?;
-    reader.learn(writer.tell()?);
-    let newest = reader.snapshot(rt, alloc)?;
-    writer.meet(rt, reader.note()?);
-    let Ok(again) = reader.try_snapshot(alloc) else {
-        return Err(NoMemory);
-    };
-    Ok((
-        told(alloc, &held)?,
-        told(alloc, &newest)?,
-        told(alloc, &again)?,
-    ))
+    let entries = [ten(rt, alloc)];
+    let longer = version.extend(rt, alloc, &FreeGate, Cut::new(1, 1024), &entries);
+    longer.expect(rt, "memory")
 }
 
-/// Whether a version has this number, and one entry or none.
-fn is_told(told: &Told, number: u64, entries: &[(u64, u64)]) -> bool {
-    told.0 == number && told.1.as_slice() == entries
+/// The writer publishes its version with one more entry.
+fn publish<R: Threads + Wait + Abort + Sync>(rt: &R, alloc: Global, writer: &mut Writer<Served>)
+    ensures { writer.new.root ≡ writer.old.root }
+{
+    let version = longer(rt, alloc, writer.current());
+    writer.publish(rt, alloc, version).expect(rt, "memory");
+}
+
+/// The writer tells the reader of its version.
+fn tell<R: Abort>(rt: &R, writer: &mut Writer<Served>, reader: &mut Reader<Served>)
+    requires { reader.old.root ≡ writer.old.root }
+    ensures writer { writer.new.root ≡ writer.old.root }
+    ensures reader { reader.new.root ≡ reader.old.root }
+{
+    match writer.tell() {
+        Ok(notice) => reader.learn(notice),
+        Err(_) => panic!(rt; "memory"),
+    }
+}
+
+/// The reader tells the writer of its version.
+fn answer<R: Wait + Abort>(rt: &R, writer: &mut Writer<Served>, reader: &mut Reader<Served>)
+    requires { reader.old.root ≡ writer.old.root }
+    ensures { reader.new.root ≡ reader.old.root }
+{
+    match reader.note() {
+        Ok(notice) => writer.meet(rt, notice),
+        Err(_) => panic!(rt; "memory"),
+    }
+}
+
+/// The version that a reader takes, which keeps its root.
+fn taken<R: Wait + Abort>(rt: &R, alloc: Global, reader: &mut Reader<Served>) -> Version<Served>
+    ensures { reader.new.root ≡ reader.old.root }
+{
+    reader.snapshot(rt, alloc).expect(rt, "memory")
 }
 
 #[test]
-fn a_held_version_stays_and_the_newest_is_found(rt: HostRuntime) -> Result<(), Fail> {
-    let (writer, reader) = one_reader(rt.alloc())?;
-    let (held, newest, again) = found(&rt, rt.alloc(), writer, reader)?;
-    assert!(rt; is_told(&held, 0, &[]));
-    assert!(rt; is_told(&newest, 1, &[(1, 10)]));
-    assert!(rt; is_told(&again, 1, &[(1, 10)]));
-    Ok(())
+fn a_held_version_stays_and_the_newest_is_found(rt: HostRuntime) {
+    let alloc = rt.alloc();
+    let (mut writer, mut reader) = two_ends(&rt, alloc);
+    let held = taken(&rt, alloc, &mut reader);
+    publish(&rt, alloc, &mut writer);
+    tell(&rt, &mut writer, &mut reader);
+    assert_told(&rt, alloc, &taken(&rt, alloc, &mut reader), 1, &[(1, 10)]);
+    answer(&rt, &mut writer, &mut reader);
+    let again = reader.try_snapshot(alloc).expect(&rt, "a turn");
+    assert_told(&rt, alloc, &again, 1, &[(1, 10)]);
+    assert_told(&rt, alloc, &held, 0, &[]);
 }

@@ -1,70 +1,49 @@
-//! Versions, their shares and their copies.
+//! Versions, their shares and their copies. Where memory is refused, a test ends here.
 
 use crate::guarded::{Guarded, OPEN};
-use crate::journals::{longer, told};
+use crate::journals::{made_longer, told};
 use aug_monoid::{NoMemory, Share};
 use std::alloc::Global;
-use std::marker::Sync;
+use std::process::Abort;
 use std::sync::Arc;
 use std::sync::atomic::AtomicU64;
-use std::test::Fail;
-use std::thread::Threads;
 use versions::Version;
 
-fn told_by_a_share(alloc: Global, version: &Version<Guarded>) -> Result<(u64, u64), NoMemory> {
-    let share = version.share(alloc)?;
-    Ok(told(&share))
-}
-
-fn told_apart(alloc: Global, version: &Version<Guarded>) -> Result<(u64, u64), NoMemory> {
-    let copy = version.apart(alloc)?;
-    Ok(told(&copy))
-}
-
-/// What a version tells by itself, by a share of it and by a copy apart from it.
-fn told_thrice(alloc: Global, version: &Version<Guarded>) -> Result<[(u64, u64); 3], NoMemory> {
-    let shared = told_by_a_share(alloc, version)?;
-    let apart = told_apart(alloc, version)?;
-    Ok([told(version), shared, apart])
-}
-
 /// The version of 0 with an empty journal.
-fn first(alloc: Global) -> Result<Version<Guarded>, NoMemory> {
-    let door = Arc::new(alloc, AtomicU64::new(OPEN))?;
-    Ok(Version::first(Guarded::new(door, 0)))
+fn first<R: Abort>(rt: &R, alloc: Global) -> Version<Guarded> {
+    let door = Arc::new(alloc, AtomicU64::new(OPEN)).expect(rt, "memory");
+    Version::first(Guarded::new(door, 0))
 }
 
-/// What the first version and one made of it tell.
-fn told_in_turn<R: Threads + Sync>(
-    rt: &R,
-    alloc: Global,
-) -> Result<[[(u64, u64); 3]; 2], NoMemory> {
-    let first = first(alloc)?;
-    let second = longer(rt, alloc, &first, 7, &[10, 20])?;
-    let after = told_thrice(alloc, &second)?;
-    Ok([told_thrice(alloc, &first)?, after])
+/// Asserts what a version that was made tells.
+fn assert_made<R: Abort>(rt: &R, version: Result<Version<Guarded>, NoMemory>, wanted: (u64, u64)) {
+    assert_eq!(rt; told(&version.expect(rt, "memory")), wanted);
+}
+
+/// Asserts what a version tells by itself, by a share of it and by a copy apart from it.
+fn assert_told<R: Abort>(rt: &R, alloc: Global, version: &Version<Guarded>, wanted: (u64, u64)) {
+    assert_eq!(rt; told(version), wanted);
+    assert_made(rt, version.share(alloc), wanted);
+    assert_made(rt, version.apart(alloc), wanted);
 }
 
 #[test]
-fn an_earlier_version_stays(rt: HostRuntime) -> Result<(), Fail> {
-    assert_eq!(rt; told_in_turn(&rt, rt.alloc())?, [[(0, 0); 3], [(1, 30); 3]]);
-    Ok(())
+fn an_earlier_version_stays(rt: HostRuntime) {
+    let first = first(&rt, rt.alloc());
+    let second = made_longer(&rt, rt.alloc(), &first, 7, &[10, 20]);
+    assert_told(&rt, rt.alloc(), &second, (1, 30));
+    assert_told(&rt, rt.alloc(), &first, (0, 0));
 }
 
 /// The caller, the tag and the number of operations of the first entry.
-fn first_entry<R: Threads + Sync>(
-    rt: &R,
-    alloc: Global,
-) -> Result<Option<(u32, u64, usize)>, NoMemory> {
-    let version = longer(rt, alloc, &first(alloc)?, 7, &[10, 20])?;
-    match version.journal().get(0) {
-        Some(entry) => Ok(Some((entry.caller, entry.tag, entry.batch.ops().len()))),
-        None => Ok(None),
-    }
+fn first_entry(version: &Version<Guarded>) -> Option<(u32, u64, usize)> {
+    let entry = version.journal().get(0)?;
+    Some((entry.caller, entry.tag, entry.batch.ops().len()))
 }
 
 #[test]
-fn an_entry_has_its_caller_and_its_tag(rt: HostRuntime) -> Result<(), Fail> {
-    assert_eq!(rt; first_entry(&rt, rt.alloc())?, Some((3, 7, 2)));
-    Ok(())
+fn an_entry_has_its_caller_and_its_tag(rt: HostRuntime) {
+    let first = first(&rt, rt.alloc());
+    let version = made_longer(&rt, rt.alloc(), &first, 7, &[10, 20]);
+    assert_eq!(rt; first_entry(&version), Some((3, 7, 2)));
 }

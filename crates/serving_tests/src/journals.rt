@@ -7,6 +7,7 @@ use aug_monoid::NoMemory;
 use fork_join::{Cut, FreeGate};
 use std::alloc::Global;
 use std::marker::Sync;
+use std::process::Abort;
 use std::thread::Threads;
 use versions::{Batch, Entry, Version};
 
@@ -32,6 +33,20 @@ pub(crate) fn longer<R: Threads + Sync>(
         batch,
     };
     version.extend(rt, alloc, &FreeGate, Cut::new(1, 1024), &[entry])
+}
+
+/// The same. Where it is refused, the test ends here.
+pub(crate) fn made_longer<R: Threads + Abort + Sync>(
+    rt: &R,
+    alloc: Global,
+    version: &Version<Guarded>,
+    tag: u64,
+    numbers: &[u64],
+) -> Version<Guarded>
+    ensures base { result.base ≡ version.now.base }
+    ensures grows { IsPrefix version.now.journal result.journal }
+{
+    longer(rt, alloc, version, tag, numbers).expect(rt, "memory")
 }
 
 /// The number and the total of a version.

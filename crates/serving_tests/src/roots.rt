@@ -1,18 +1,23 @@
-//! A root over a total behind a door: the worked one, readers beside a writer, and refused copies.
+//! A root over a total behind a door: the worked one, readers beside a writer, and refused copies. Where else memory is
+//! refused, a test ends.
 ghost use Rattle.std.specs.Prelude.{◌≡◌, IfOk};
 ghost use Rattle.version_root.specs.Public.{IsPrefix};
 
 use crate::guarded::{Guarded, HELD, OPEN, SHUT, TRAP};
-use crate::journals::{longer, told};
+use crate::journals::{longer, made_longer, told};
 use aug_monoid::NoMemory;
 use std::alloc::Global;
 use std::marker::Sync;
+use std::process::Abort;
 use std::sync::atomic::{AtomicU64, Ordering};
 use std::sync::{Arc, Wait};
-use std::test::Fail;
 use std::thread;
 use std::thread::Threads;
 use version_root::{Missed, Reader, Version, Writer, start};
+
+fn door<R: Abort>(rt: &R, alloc: Global) -> Arc<AtomicU64> {
+    Arc::new(alloc, AtomicU64::new(OPEN)).expect(rt, "memory")
+}
 
 /// A root with one reader.
 fn one_reader(
@@ -26,61 +31,68 @@ fn one_reader(
     Ok((writer, reader))
 }
 
-/// The number and the total of the version that a reader takes.
-fn taken<R: Wait>(
+fn two_ends<R: Abort>(
     rt: &R,
     alloc: Global,
-    reader: &mut Reader<Guarded>,
-) -> Result<(u64, u64), NoMemory>
+    door: &Arc<AtomicU64>,
+) -> (Writer<Guarded>, Reader<Guarded>)
+    ensures { result.1.root ≡ result.0.root }
+{
+    one_reader(alloc, door).expect(rt, "memory")
+}
+
+/// The number and the total of the version that a reader takes.
+fn taken<R: Wait + Abort>(rt: &R, alloc: Global, reader: &mut Reader<Guarded>) -> (u64, u64)
     ensures { reader.new.root ≡ reader.old.root }
 {
-    let version = reader.snapshot(rt, alloc)?;
-    Ok(told(&version))
+    let version = reader.snapshot(rt, alloc).expect(rt, "memory");
+    told(&version)
 }
 
 /// The writer publishes its version with one more entry, which adds this number.
-fn add<R: Threads + Wait + Sync>(
+fn add<R: Threads + Wait + Abort + Sync>(
     rt: &R,
     alloc: Global,
     writer: &mut Writer<Guarded>,
     number: u64,
-) -> Result<(), NoMemory>
+)
     ensures { writer.new.root ≡ writer.old.root }
 {
-    let version = longer(rt, alloc, writer.current(), 0, &[number])?;
-    writer.publish(rt, alloc, version)
+    let version = made_longer(rt, alloc, writer.current(), 0, &[number]);
+    writer.publish(rt, alloc, version).expect(rt, "memory");
 }
 
-/// What a reader sees before a version is published, and after it is told of it.
-fn seen<R: Threads + Wait + Sync>(
-    rt: &R,
-    alloc: Global,
-    mut writer: Writer<Guarded>,
-    mut reader: Reader<Guarded>,
-) -> Result<((u64, u64), (u64, u64)), NoMemory>
-    requires { reader.root ≡ writer.root }
+/// The writer tells the reader of its version.
+fn tell<R: Abort>(rt: &R, writer: &mut Writer<Guarded>, reader: &mut Reader<Guarded>)
+    requires { reader.old.root ≡ writer.old.root }
+    ensures writer { writer.new.root ≡ writer.old.root }
+    ensures reader { reader.new.root ≡ reader.old.root }
 {
-    let first = taken(rt, alloc, &mut reader)?;
-    add(rt, alloc, &mut writer, 10)?;
-    reader.learn(writer.tell()?);
-    let second = taken(rt, alloc, &mut reader)?;
-    writer.meet(rt, reader.note()?);
-    Ok((first, second))
+    match writer.tell() {
+        Ok(notice) => reader.learn(notice),
+        Err(_) => panic!(rt; "memory"),
+    }
 }
 
-fn seen_in_turn<R: Threads + Wait + Sync>(
-    rt: &R,
-    alloc: Global,
-) -> Result<((u64, u64), (u64, u64)), NoMemory> {
-    let door = Arc::new(alloc, AtomicU64::new(OPEN))?;
-    let (writer, reader) = one_reader(alloc, &door)?;
-    seen(rt, alloc, writer, reader)
+/// The reader tells the writer of its version.
+fn answer<R: Wait + Abort>(rt: &R, writer: &mut Writer<Guarded>, reader: &mut Reader<Guarded>)
+    requires { reader.old.root ≡ writer.old.root }
+{
+    match reader.note() {
+        Ok(notice) => writer.meet(rt, notice),
+        Err(_) => panic!(rt; "memory"),
+    }
 }
 
 #[test]
-fn a_notice_shows_what_was_published(rt: HostRuntime) -> Result<(), Fail> {
-    assert_eq!(rt; seen_in_turn(&rt, rt.alloc())?, ((0, 0), (1, 10)));
-    Ok(())
+fn a_notice_shows_what_was_published(rt: HostRuntime) {
+    let door = door(&rt, rt.alloc());
+    let (mut writer, mut reader) = two_ends(&rt, rt.alloc(), &door);
+    assert_eq!(rt; taken(&rt, rt.alloc(), &mut reader), (0, 0));
+    add(&rt, rt.alloc(), &mut writer, 10);
+    tell(&rt, &mut writer, &mut reader);
+    assert_eq!(rt; taken(&rt, rt.alloc(), &mut reader), (1, 10));
+    answer(&rt, &mut writer, &mut reader);
 }
 
 #[derive(Drop)]
@@ -90,57 +102,57 @@ enum End {
 }
 
 /// Publishes 1000 versions, and answers whether the last one has that number.
-fn publish_all<R: Threads + Wait + Sync>(
+fn publish_all<R: Threads + Wait + Abort + Sync>(
     rt: &R,
     alloc: Global,
-    mut writer: Writer<Guarded>,
-) -> Result<bool, NoMemory> {
+    writer: &mut Writer<Guarded>,
+) -> bool {
     for number in 0..1000 {
-        add(rt, alloc, &mut writer, number)?;
+        add(rt, alloc, writer, number);
     }
-    Ok(writer.current().number() == 1000)
+    writer.current().number() == 1000
 }
 
 /// Takes 1000 versions, and answers whether their numbers never fell.
-fn take_all<R: Wait>(rt: &R, alloc: Global, mut reader: Reader<Guarded>) -> Result<bool, NoMemory> {
+fn take_all<R: Wait + Abort>(rt: &R, alloc: Global, reader: &mut Reader<Guarded>) -> bool {
     let mut last = 0;
     let mut rises = true;
     for _ in 0..1000 {
-        let (number, _) = taken(rt, alloc, &mut reader)?;
+        let (number, _) = taken(rt, alloc, reader);
         rises = rises && last <= number;
         last = number;
     }
-    Ok(rises)
+    rises
 }
 
-fn run<R: Threads + Wait + Sync>(rt: &R, alloc: Global, end: End) -> Result<bool, NoMemory> {
+fn run<R: Threads + Wait + Abort + Sync>(rt: &R, alloc: Global, end: End) -> bool {
     match end {
-        End::Writer(writer) => publish_all(rt, alloc, writer),
-        End::Reader(reader) => take_all(rt, alloc, reader),
+        End::Writer(mut writer) => publish_all(rt, alloc, &mut writer),
+        End::Reader(mut reader) => take_all(rt, alloc, &mut reader),
     }
 }
 
 /// The ends of a root with 20 readers.
-fn many_ends(alloc: Global) -> Result<Vec<End>, NoMemory> {
-    let door = Arc::new(alloc, AtomicU64::new(OPEN))?;
-    let (writer, readers) = start(alloc, Guarded::new(door, 0), 20)?;
-    let mut ends = Vec::with_capacity(alloc, 21)?;
-    ends.push(End::Writer(writer))?;
+fn many_ends<R: Abort>(rt: &R, alloc: Global) -> Vec<End> {
+    let base = Guarded::new(door(rt, alloc), 0);
+    let (writer, readers) = start(alloc, base, 20).expect(rt, "memory");
+    let mut ends = Vec::new(alloc);
+    ends.push(End::Writer(writer)).expect(rt, "memory");
     for reader in readers {
-        ends.push(End::Reader(reader))?;
+        ends.push(End::Reader(reader)).expect(rt, "memory");
     }
-    Ok(ends)
+    ends
 }
 
-fn never_fell<R: Threads + Wait + Sync>(rt: &R, alloc: Global) -> Result<bool, NoMemory> {
-    let answers = thread::map_vec(rt, many_ends(alloc)?, &|end| run(rt, alloc, end))?;
-    Ok(answers.iter().all(|answer| matches!(answer, Ok(true))))
+fn never_fell<R: Threads + Wait + Abort + Sync>(rt: &R, alloc: Global) -> bool {
+    let ends = many_ends(rt, alloc);
+    let answers = thread::map_vec(rt, ends, &|end| run(rt, alloc, end)).expect(rt, "memory");
+    answers.iter().all(|answer| *answer)
 }
 
 #[test]
-fn numbers_never_fall(rt: HostRuntime) -> Result<(), Fail> {
-    assert!(rt; never_fell(&rt, rt.alloc())?);
-    Ok(())
+fn numbers_never_fall(rt: HostRuntime) {
+    assert!(rt; never_fell(&rt, rt.alloc()));
 }
 
 /// Waits until a copy is held up at the door.
@@ -163,49 +175,49 @@ fn lost_to(alloc: Global, reader: &mut Reader<Guarded>) -> u64 {
 
 /// The reader tries once while the turn of its stripe is held, and again until it is free.
 /// It answers to whom it lost the turn first, and the number of its version.
-fn try_while_held<R: Wait>(
+fn try_while_held<R: Wait + Abort>(
     rt: &R,
     alloc: Global,
     door: &AtomicU64,
-    mut reader: Reader<Guarded>,
-) -> Result<(u64, u64), NoMemory> {
+    reader: &mut Reader<Guarded>,
+) -> (u64, u64) {
     wait_until_held(rt, door);
-    let found = lost_to(alloc, &mut reader);
+    let found = lost_to(alloc, reader);
     door.store(OPEN, Ordering::SeqCst);
-    let (number, _) = taken(rt, alloc, &mut reader)?;
-    Ok((found, number))
+    let (number, _) = taken(rt, alloc, reader);
+    (found, number)
 }
 
 /// The readers with the numbers 2 and 10 of a root with 8 stripes, who share the first one.
-fn of_one_stripe(
+fn of_one_stripe<R: Abort>(
+    rt: &R,
     alloc: Global,
     door: &Arc<AtomicU64>,
-) -> Result<(Reader<Guarded>, Reader<Guarded>), NoMemory> {
-    let (_writer, mut readers) = start(alloc, Guarded::new(Arc::try_clone(door)?, 0), 9)?;
-    let last = readers.pop().ok_or(NoMemory)?;
+) -> (Reader<Guarded>, Reader<Guarded>) {
+    let base = Guarded::new(Arc::try_clone(door).expect(rt, "memory"), 0);
+    let (_writer, mut readers) = start(alloc, base, 9).expect(rt, "memory");
+    let last = readers.pop().expect(rt, "nine readers");
     readers.truncate(1);
-    let first = readers.pop().ok_or(NoMemory)?;
-    Ok((first, last))
+    let first = readers.pop().expect(rt, "a reader");
+    (first, last)
 }
 
 /// The first reader's copy is held up while the second one tries.
-fn tried<R: Threads + Wait + Sync>(rt: &R, alloc: Global) -> Result<(u64, u64), NoMemory> {
-    let door = Arc::new(alloc, AtomicU64::new(OPEN))?;
-    let (mut first, last) = of_one_stripe(alloc, &door)?;
+fn tried<R: Threads + Wait + Abort + Sync>(rt: &R, alloc: Global) -> (u64, u64) {
+    let door = door(rt, alloc);
+    let (mut first, mut last) = of_one_stripe(rt, alloc, &door);
     door.store(TRAP, Ordering::SeqCst);
-    let (held, tried) = thread::join(
+    let (_held, tried) = thread::join(
         rt,
-        move || taken(rt, alloc, &mut first),
-        || try_while_held(rt, alloc, &door, last),
+        || taken(rt, alloc, &mut first),
+        || try_while_held(rt, alloc, &door, &mut last),
     );
-    held?;
     tried
 }
 
 #[test]
-fn a_held_turn_is_busy(rt: HostRuntime) -> Result<(), Fail> {
-    assert_eq!(rt; tried(&rt, rt.alloc())?, (2, 0));
-    Ok(())
+fn a_held_turn_is_busy(rt: HostRuntime) {
+    assert_eq!(rt; tried(&rt, rt.alloc()), (2, 0));
 }
 
 /// Whether each call of a reader that wants a copy of a state is refused.
@@ -230,41 +242,16 @@ fn are_writes_refused<R: Threads + Wait + Sync>(
     no_version && no_publish
 }
 
-/// Whether a new root and all calls of a root's ends are refused, where the version is the writer's next one.
-fn are_all_refused<R: Threads + Wait + Sync>(
-    rt: &R,
-    alloc: Global,
-    door: &Arc<AtomicU64>,
-    writer: &mut Writer<Guarded>,
-    reader: &mut Reader<Guarded>,
-    version: Version<Guarded>,
-) -> bool
-    requires base { version.base ≡ writer.old.base }
-    requires grows { IsPrefix writer.old.journal version.journal }
-{
-    let no_root = one_reader(alloc, door).is_err();
-    let no_read = are_reads_refused(rt, alloc, reader);
-    let no_write = are_writes_refused(rt, alloc, writer, version);
-    no_root && no_read && no_write
-}
-
-/// Whether copies are refused while the door is shut, and what the reader and the writer tell then.
-fn refused<R: Threads + Wait + Sync>(
-    rt: &R,
-    alloc: Global,
-) -> Result<(bool, (u64, u64), (u64, u64)), NoMemory> {
-    let door = Arc::new(alloc, AtomicU64::new(OPEN))?;
-    let (mut writer, mut reader) = one_reader(alloc, &door)?;
-    let second = longer(rt, alloc, writer.current(), 0, &[10])?;
-    door.store(SHUT, Ordering::SeqCst);
-    let all = are_all_refused(rt, alloc, &door, &mut writer, &mut reader, second);
-    door.store(OPEN, Ordering::SeqCst);
-    let now = taken(rt, alloc, &mut reader)?;
-    Ok((all, now, told(writer.current())))
-}
-
 #[test]
-fn refused_copies_leave_the_root_as_it_was(rt: HostRuntime) -> Result<(), Fail> {
-    assert_eq!(rt; refused(&rt, rt.alloc())?, (true, (0, 0), (0, 0)));
-    Ok(())
+fn refused_copies_leave_the_root_as_it_was(rt: HostRuntime) {
+    let door = door(&rt, rt.alloc());
+    let (mut writer, mut reader) = two_ends(&rt, rt.alloc(), &door);
+    let second = made_longer(&rt, rt.alloc(), writer.current(), 0, &[10]);
+    door.store(SHUT, Ordering::SeqCst);
+    assert!(rt; one_reader(rt.alloc(), &door).is_err());
+    assert!(rt; are_reads_refused(&rt, rt.alloc(), &mut reader));
+    assert!(rt; are_writes_refused(&rt, rt.alloc(), &mut writer, second));
+    door.store(OPEN, Ordering::SeqCst);
+    assert_eq!(rt; taken(&rt, rt.alloc(), &mut reader), (0, 0));
+    assert_eq!(rt; told(writer.current()), (0, 0));
 }

@@ -14,4 +14,6 @@ mod forks;
 #[cfg(test)]
 mod sums;
 #[cfg(test)]
+mod unions;
+#[cfg(test)]
 mod work;

@@ -10,6 +10,7 @@ use aug_monoid::{Key, NoMemory, Share, Steps};
 use std::alloc::Global;
 use std::cmp;
 use std::marker::Model;
+use std::process::Abort;
 use std::sync::Arc;
 use std::sync::atomic::{AtomicU64, Ordering};
 use std::sync::ledger::Ledger;
@@ -30,11 +31,16 @@ impl Model for Counted {
 }
 
 impl Counted {
-    pub(super) fn new(number: u64, compared: &Arc<AtomicU64>) -> Result<Counted, NoMemory>
+    fn new(number: u64, compared: &Arc<AtomicU64>) -> Result<Counted, NoMemory>
         ensures { IfOk result (λ k. k ≡ number) }
     {
         let compared = Arc::try_clone(compared)?;
         Ok(Counted { number, compared })
+    }
+
+    /// The number with its count. Where memory is refused, the test ends here.
+    pub(super) fn made<R: Abort>(rt: &R, number: u64, compared: &Arc<AtomicU64>) -> Counted {
+        Counted::new(number, compared).expect(rt, "memory")
     }
 }
 

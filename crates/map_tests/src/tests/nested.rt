@@ -6,8 +6,8 @@ use aug_map::{MapOver, PlainMap};
 use aug_monoid::{Augment, NoMemory, Share, Steps, SumMax};
 use std::alloc::Global;
 use std::marker::{Brand, Model};
+use std::process::Abort;
 use std::sync::ledger::{Blank, Ledger};
-use std::test::Fail;
 
 /// Weights by number.
 #[derive(Drop)]
@@ -96,36 +96,29 @@ impl Augment for FirstPosting {
 }
 
 /// The first weight of the entries from 2 on.
-fn first_weight_in<C: Ledger>(
-    alloc: Global,
-    steps: &mut Steps<C>,
-) -> Result<Option<(u64, u64)>, NoMemory> {
-    let mut map: PlainMap<FirstPosting> = MapOver::empty();
-    for (key, val) in [(1, 7), (2, 0), (3, 30), (4, 40)] {
-        map = map.put(alloc, key, val, steps)?;
-    }
-    let first = map.aug_right(alloc, &2, steps)?;
-    first.weights.select(alloc, 0)
-}
-
-fn first_weight_counted<C: Ledger>(
+fn first_weight_counted<R: Abort, C: Ledger>(
+    rt: &R,
     alloc: Global,
     blank: Blank,
-) -> Result<Option<(u64, u64)>, NoMemory>
+) -> Option<(u64, u64)>
     requires name { blank.name ≡ C.name }
     requires parts { blank.parts ≡ C.parts }
     requires some { 0 < blank.parts }
 {
     let mut steps = Steps::<C>::start(blank);
-    first_weight_in::<C>(alloc, &mut steps)
+    let mut map: PlainMap<FirstPosting> = MapOver::empty();
+    for (key, val) in [(1, 7), (2, 0), (3, 30), (4, 40)] {
+        map = map.put(alloc, key, val, &mut steps).expect(rt, "memory");
+    }
+    let first = map.aug_right(alloc, &2, &mut steps).expect(rt, "memory");
+    first.weights.select(alloc, 0).expect(rt, "memory")
 }
 
-fn first_weight(alloc: Global) -> Result<Option<(u64, u64)>, NoMemory> {
-    first_weight_counted::<Brand>(alloc, Blank::new(1))
+fn first_weight<R: Abort>(rt: &R, alloc: Global) -> Option<(u64, u64)> {
+    first_weight_counted::<R, Brand>(rt, alloc, Blank::new(1))
 }
 
 #[test]
-fn a_map_as_augmented_value(rt: HostRuntime) -> Result<(), Fail> {
-    assert_eq!(rt; first_weight(rt.alloc())?, Some((3, 30)));
-    Ok(())
+fn a_map_as_augmented_value(rt: HostRuntime) {
+    assert_eq!(rt; first_weight(&rt, rt.alloc()), Some((3, 30)));
 }

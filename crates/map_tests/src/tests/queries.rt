@@ -5,12 +5,13 @@ ghost use Rattle.map_model.specs.Balance.{IsBlockSize};
 ghost use Rattle.map_model.proofs.Folds.{fold-append};
 ghost use Rattle.aug_monoid.specs.Totals.{totals_monoid, totals_base_fits};
 
-use super::sums::{Sums, map_of, size_of};
+use super::sums::{Sums, assert_made, map_of};
 use aug_monoid::{AugTest, Leaf, NoMemory, Project, Steps, SumMax, Totals};
 use diff_leaf::DiffLeaf;
 use leaf_blocks::PlainLeaf;
 use std::alloc::Global;
 use std::marker::Brand;
+use std::process::Abort;
 use std::sync::ledger::{Blank, Ledger};
 
 /// Values of at least `bound`.
@@ -57,99 +58,90 @@ impl Project<SumMax<u64>> for Greatest {
     }
 }
 
+/// Asserts what stands at places and beside keys.
+fn assert_places<R: Abort, L: Leaf<u64, u64>, const B: usize, C: Ledger>(
+    rt: &R,
+    alloc: Global,
+    map: &Sums<L, B>,
+    steps: &mut Steps<C>,
+) {
+    assert_eq!(rt; map.rank(&4, steps), 2);
+    assert_entry(rt, map.select(alloc, 3), Some((5, 50)));
+    assert_entry(rt, map.select(alloc, 4), None);
+    assert_entry(rt, map.next(alloc, &3, steps), Some((4, 40)));
+    assert_entry(rt, map.prev(alloc, &1, steps), None);
+}
+
 type Entry = Option<(u64, u64)>;
 
-fn places<L: Leaf<u64, u64>, const B: usize, C: Ledger>(
+fn assert_entry<R: Abort>(rt: &R, entry: Result<Entry, NoMemory>, wanted: Entry) {
+    assert_eq!(rt; entry.expect(rt, "memory"), wanted);
+}
+
+/// Asserts what parts of a map fold to.
+fn assert_folds<R: Abort, L: Leaf<u64, u64>, const B: usize, C: Ledger>(
+    rt: &R,
     alloc: Global,
     map: &Sums<L, B>,
     steps: &mut Steps<C>,
-) -> Result<(u64, Entry, Entry, Entry, Entry), NoMemory> {
-    let at = map.rank(&4, steps);
-    let placed = map.select(alloc, 3)?;
-    let past = map.select(alloc, 4)?;
-    let behind = map.next(alloc, &3, steps)?;
-    let before = map.prev(alloc, &1, steps)?;
-    Ok((at, placed, past, behind, before))
+) {
+    assert_fold(rt, map.aug_left(alloc, &3, steps), 44, 34);
+    assert_fold(rt, map.aug_right(alloc, &4, steps), 90, 50);
+    assert_fold(rt, map.aug_range(alloc, &2, &4, steps), 74, 40);
+    let greatest = map.aug_project(alloc, &2, &4, &Greatest);
+    assert_eq!(rt; greatest.expect(rt, "memory"), 40);
 }
 
-fn folds<L: Leaf<u64, u64>, const B: usize, C: Ledger>(
+fn assert_fold<R: Abort>(rt: &R, fold: Result<Totals, NoMemory>, sum: u64, greatest: u64) {
+    assert_eq!(rt; fold.expect(rt, "memory"), Totals { sum, greatest });
+}
+
+/// Asserts what parts of a map are.
+fn assert_parts<R: Abort, L: Leaf<u64, u64>, const B: usize>(
+    rt: &R,
     alloc: Global,
     map: &Sums<L, B>,
-    steps: &mut Steps<C>,
-) -> Result<(Totals, Totals, Totals, u64), NoMemory> {
-    let left = map.aug_left(alloc, &3, steps)?;
-    let right = map.aug_right(alloc, &4, steps)?;
-    let range = map.aug_range(alloc, &2, &4, steps)?;
-    let greatest = map.aug_project(alloc, &2, &4, &Greatest)?;
-    Ok((left, right, range, greatest))
+) {
+    let passing = map.aug_filter(alloc, &AtLeast { bound: 40 });
+    assert_made(rt, alloc, passing, &[(4, 40), (5, 50)]);
+    assert_made(rt, alloc, map.below(alloc, &4), &[(1, 10), (3, 34)]);
+    assert_made(rt, alloc, map.above(alloc, &4), &[(5, 50)]);
+    assert_made(rt, alloc, map.slice(alloc, &3, &4), &[(3, 34), (4, 40)]);
 }
 
-fn sizes<L: Leaf<u64, u64>, const B: usize>(
-    alloc: Global,
-    map: &Sums<L, B>,
-) -> Result<(u64, u64, u64, u64), NoMemory> {
-    let passing = size_of(map.aug_filter(alloc, &AtLeast { bound: 40 })?);
-    let lower = size_of(map.below(alloc, &4)?);
-    let upper = size_of(map.above(alloc, &4)?);
-    let middle = size_of(map.slice(alloc, &3, &4)?);
-    Ok((passing, lower, upper, middle))
-}
+const ENTRIES: &[(u64, u64)] = &[(4, 40), (1, 10), (5, 50), (3, 34)];
 
-type Answers = (
-    (u64, Entry, Entry, Entry, Entry),
-    (Totals, Totals, Totals, u64),
-    (u64, u64, u64, u64),
-);
-
-fn asked_in<L: Leaf<u64, u64>, const B: usize, C: Ledger>(
+fn assert_asked_in<R: Abort, L: Leaf<u64, u64>, const B: usize, C: Ledger>(
+    rt: &R,
     alloc: Global,
     steps: &mut Steps<C>,
-) -> Result<Answers, NoMemory>
+)
     requires size { IsBlockSize B }
 {
-    let map: Sums<L, B> = map_of(alloc, &[(4, 40), (1, 10), (5, 50), (3, 34)], steps)?;
-    let entries = places(alloc, &map, steps)?;
-    let values = folds(alloc, &map, steps)?;
-    Ok((entries, values, sizes(alloc, &map)?))
+    let map: Sums<L, B> = map_of(rt, alloc, ENTRIES, steps);
+    assert_places(rt, alloc, &map, steps);
+    assert_folds(rt, alloc, &map, steps);
+    assert_parts(rt, alloc, &map);
 }
 
 /// The same for blocks of 1, 2 and 32 entries.
-fn asked_counted<L: Leaf<u64, u64>, C: Ledger>(
-    alloc: Global,
-    blank: Blank,
-) -> Result<(Answers, Answers, Answers), NoMemory>
+fn assert_asked_counted<R: Abort, L: Leaf<u64, u64>, C: Ledger>(rt: &R, alloc: Global, blank: Blank)
     requires name { blank.name ≡ C.name }
     requires parts { blank.parts ≡ C.parts }
     requires some { 0 < blank.parts }
 {
     let mut steps = Steps::<C>::start(blank);
-    let one = asked_in::<L, 1, C>(alloc, &mut steps)?;
-    let two = asked_in::<L, 2, C>(alloc, &mut steps)?;
-    let many = asked_in::<L, 32, C>(alloc, &mut steps)?;
-    Ok((one, two, many))
+    assert_asked_in::<R, L, 1, C>(rt, alloc, &mut steps);
+    assert_asked_in::<R, L, 2, C>(rt, alloc, &mut steps);
+    assert_asked_in::<R, L, 32, C>(rt, alloc, &mut steps);
 }
 
-fn asked<L: Leaf<u64, u64>>(alloc: Global) -> Result<(Answers, Answers, Answers), NoMemory> {
-    asked_counted::<L, Brand>(alloc, Blank::new(1))
-}
-
-fn totals(sum: u64, greatest: u64) -> Totals {
-    Totals { sum, greatest }
+fn assert_asked<R: Abort, L: Leaf<u64, u64>>(rt: &R, alloc: Global) {
+    assert_asked_counted::<R, L, Brand>(rt, alloc, Blank::new(1));
 }
 
 #[test]
-fn questions_to_four_entries(rt: HostRuntime) -> Result<(), NoMemory> {
-    let alloc = rt.alloc();
-    let want = (
-        (2, Some((5, 50)), None, Some((4, 40)), None),
-        (totals(44, 34), totals(90, 50), totals(74, 40), 40),
-        (2, 2, 1, 2),
-    );
-    let plain = asked::<PlainLeaf<u64, u64>>(alloc)?;
-    assert_eq!(rt; plain.0, want);
-    assert_eq!(rt; plain.1, want);
-    assert_eq!(rt; plain.2, want);
-    let coded = asked::<DiffLeaf<u64>>(alloc)?;
-    assert_eq!(rt; coded.2, want);
-    Ok(())
+fn questions_to_four_entries(rt: HostRuntime) {
+    assert_asked::<HostRuntime, PlainLeaf<u64, u64>>(&rt, rt.alloc());
+    assert_asked::<HostRuntime, DiffLeaf<u64>>(&rt, rt.alloc());
 }

@@ -9,8 +9,8 @@ use diff_leaf::DiffLeaf;
 use leaf_blocks::PlainLeaf;
 use std::alloc::Global;
 use std::marker::Brand;
+use std::process::Abort;
 use std::sync::ledger::{Blank, Ledger};
-use std::test::Fail;
 
 /// The sum of the values, refused where it is 9.
 #[derive(Drop)]
@@ -68,48 +68,48 @@ type Sums<L, const B: usize> = Map<NotNine, L, B>;
 type Refused = (bool, u64, bool, u64);
 
 /// A fold that is refused and one that isn't, a put that is refused, and the size of the map thereafter.
-fn refused_in<L: Leaf<u64, u64>, const B: usize, C: Ledger>(
+fn refused_in<R: Abort, L: Leaf<u64, u64>, const B: usize, C: Ledger>(
+    rt: &R,
     alloc: Global,
     steps: &mut Steps<C>,
-) -> Result<Refused, NoMemory>
+) -> Refused
     requires size { IsBlockSize B }
 {
     let mut map: Sums<L, B> = MapOver::empty();
     for (key, val) in [(1, 3), (2, 4), (4, 1), (3, 5)] {
-        map = map.put(alloc, key, val, steps)?;
+        map = map.put(alloc, key, val, steps).expect(rt, "memory");
     }
     let nine = map.aug_range(alloc, &2, &3, steps).is_err();
-    let seven = map.aug_range(alloc, &1, &2, steps)?;
+    let seven = map.aug_range(alloc, &1, &2, steps).expect(rt, "seven");
     let put = map.put(alloc, 1, 5, steps).is_err();
-    Ok((nine, seven, put, map.size()))
+    (nine, seven, put, map.size())
 }
 
 /// The same for blocks of 1 and of 32 entries.
-fn refused_counted<L: Leaf<u64, u64>, C: Ledger>(
+fn refused_counted<R: Abort, L: Leaf<u64, u64>, C: Ledger>(
+    rt: &R,
     alloc: Global,
     blank: Blank,
-) -> Result<(Refused, Refused), NoMemory>
+) -> (Refused, Refused)
     requires name { blank.name ≡ C.name }
     requires parts { blank.parts ≡ C.parts }
     requires some { 0 < blank.parts }
 {
     let mut steps = Steps::<C>::start(blank);
-    let one = refused_in::<L, 1, C>(alloc, &mut steps)?;
-    let many = refused_in::<L, 32, C>(alloc, &mut steps)?;
-    Ok((one, many))
+    let one = refused_in::<R, L, 1, C>(rt, alloc, &mut steps);
+    let many = refused_in::<R, L, 32, C>(rt, alloc, &mut steps);
+    (one, many)
 }
 
-fn refused<L: Leaf<u64, u64>>(alloc: Global) -> Result<(Refused, Refused), NoMemory> {
-    refused_counted::<L, Brand>(alloc, Blank::new(1))
+fn refused<R: Abort, L: Leaf<u64, u64>>(rt: &R, alloc: Global) -> (Refused, Refused) {
+    refused_counted::<R, L, Brand>(rt, alloc, Blank::new(1))
 }
 
 #[test]
-fn a_refused_fold_leaves_the_map(rt: HostRuntime) -> Result<(), Fail> {
-    let alloc = rt.alloc();
-    let plain = refused::<PlainLeaf<u64, u64>>(alloc)?;
-    assert_eq!(rt; plain.0, (true, 7, true, 4));
-    assert_eq!(rt; plain.1, (true, 7, true, 4));
-    let coded = refused::<DiffLeaf<u64>>(alloc)?;
-    assert_eq!(rt; coded.1, (true, 7, true, 4));
-    Ok(())
+fn a_refused_fold_leaves_the_map(rt: HostRuntime) {
+    let wanted = (true, 7, true, 4);
+    let plain = refused::<HostRuntime, PlainLeaf<u64, u64>>(&rt, rt.alloc());
+    assert_eq!(rt; plain, (wanted, wanted));
+    let coded = refused::<HostRuntime, DiffLeaf<u64>>(&rt, rt.alloc());
+    assert_eq!(rt; coded, (wanted, wanted));
 }

@@ -1,4 +1,4 @@
-//! Maps of numbers, with the sum and the greatest of their values.
+//! Maps of numbers, with the sum and the greatest of their values. Where memory is refused, a test ends here.
 ghost use Rattle.map_model.specs.Balance.{IsBlockSize};
 
 use aug_map::{Map, MapOver};
@@ -12,39 +12,38 @@ pub(super) type Sums<L, const B: usize> = Map<SumMax<u64>, L, B>;
 pub(super) type Entries = Vec<(u64, u64)>;
 
 /// The map of these entries, put one after the other.
-pub(super) fn map_of<L: Leaf<u64, u64>, const B: usize, C: Ledger>(
+pub(super) fn map_of<R: Abort, L: Leaf<u64, u64>, const B: usize, C: Ledger>(
+    rt: &R,
     alloc: Global,
     entries: &[(u64, u64)],
     steps: &mut Steps<C>,
-) -> Result<Sums<L, B>, NoMemory>
+) -> Sums<L, B>
     requires { IsBlockSize B }
 {
     let mut map: Sums<L, B> = MapOver::empty();
     for entry in entries {
-        map = map.put(alloc, entry.0, entry.1, steps)?;
+        map = map.put(alloc, entry.0, entry.1, steps).expect(rt, "memory");
     }
-    Ok(map)
+    map
 }
 
-/// Pushes the entries of a map, which is dropped.
-pub(super) fn push_list<L: Leaf<u64, u64>, const B: usize>(
+/// Asserts that a map has these entries.
+pub(super) fn assert_has<R: Abort, L: Leaf<u64, u64>, const B: usize>(
+    rt: &R,
     alloc: Global,
-    lists: &mut Vec<Entries>,
-    map: Sums<L, B>,
-) -> Result<(), NoMemory> {
-    lists.push(map.to_vec(alloc)?)?;
-    Ok(())
+    map: &Sums<L, B>,
+    wanted: &[(u64, u64)],
+) {
+    let list = map.to_vec(alloc).expect(rt, "memory");
+    assert_eq!(rt; list.as_slice(), wanted);
 }
 
-/// The size of a map, which is dropped.
-pub(super) fn size_of<L: Leaf<u64, u64>, const B: usize>(map: Sums<L, B>) -> u64 {
-    map.size()
-}
-
-/// Whether lists are those of a table.
-pub(super) fn assert_lists<R: Abort>(rt: &R, lists: &[Entries], table: &[&[(u64, u64)]]) {
-    assert_eq!(rt; lists.len(), table.len());
-    for (list, wanted) in lists.iter().zip(table) {
-        assert_eq!(rt; list.as_slice(), *wanted);
-    }
+/// Asserts that a map, which is dropped, was made and has these entries.
+pub(super) fn assert_made<R: Abort, L: Leaf<u64, u64>, const B: usize>(
+    rt: &R,
+    alloc: Global,
+    map: Result<Sums<L, B>, NoMemory>,
+    wanted: &[(u64, u64)],
+) {
+    assert_has(rt, alloc, &map.expect(rt, "memory"), wanted);
 }

@@ -2,14 +2,15 @@
 ghost use Rattle.std.specs.Prelude.{◌+◌, ◌-◌, ◌^◌, ◌≤◌, min, nat_le};
 ghost use Rattle.std.proofs.Common.{arith};
 
-use super::sums::{Entries, Sums, assert_lists, push_list};
-use aug_map::{CodedMap, MapOver, PlainMap};
-use aug_monoid::{Leaf, NoMemory, Reduce, SatSum, SumMax, Test};
+use super::sums::{Sums, assert_has, assert_made};
+use aug_map::MapOver;
+use aug_monoid::{Leaf, NoMemory, Reduce, SatSum, Test};
+use diff_leaf::DiffLeaf;
 use fork_join::{Cut, FreeGate};
+use leaf_blocks::PlainLeaf;
 use std::alloc::Global;
 use std::marker::{Send, Sync};
 use std::process::Abort;
-use std::test::Fail;
 use std::thread::Threads;
 
 /// Values of at least `bound`.
@@ -58,134 +59,122 @@ impl Reduce<u64, u64> for Count {
     }
 }
 
-/// The map of 1,10 5,51, after each of two batches too.
-fn batches<R: Threads + Sync, L: Leaf<u64, u64> + Send + Sync>(
+/// The maps of this file are those that tools name, `PlainMap` and `CodedMap` of sums.
+type Tool<L> = Sums<L, 32>;
+
+const PAIRS: &[(u64, u64)] = &[(5, 50), (1, 10), (5, 51)];
+
+const BUILT: &[(u64, u64)] = &[(1, 10), (5, 51)];
+
+const OTHERS: &[(u64, u64)] = &[(5, 1), (3, 31)];
+
+const PUTS: &[(u64, u64)] = &[(3, 30), (5, 1), (3, 31)];
+
+const AFTER_PUTS: &[(u64, u64)] = &[(1, 10), (3, 31), (5, 1)];
+
+const AFTER_DELS: &[(u64, u64)] = &[(3, 31), (5, 1)];
+
+fn built<R: Threads + Abort + Sync, L: Leaf<u64, u64> + Send + Sync>(
     rt: &R,
     alloc: Global,
-    a: &Sums<L, 32>,
-    cut: Cut,
-) -> Result<Vec<Entries>, NoMemory> {
-    let mut lists = Vec::new(alloc);
-    lists.push(a.to_vec(alloc)?)?;
-    let puts = a.multi_put(rt, alloc, &FreeGate, cut, &[(3, 30), (5, 1), (3, 31)])?;
-    lists.push(puts.to_vec(alloc)?)?;
-    let dels = puts.multi_del(rt, alloc, &FreeGate, cut, &[1, 9])?;
-    push_list(alloc, &mut lists, dels)?;
-    Ok(lists)
+    pairs: &[(u64, u64)],
+) -> Tool<L> {
+    let map = MapOver::build(rt, alloc, &FreeGate, Cut::new(2, 1), pairs);
+    map.expect(rt, "memory")
 }
 
-const AFTER_BATCHES: &[&[(u64, u64)]] = &[
-    &[(1, 10), (5, 51)],
-    &[(1, 10), (3, 31), (5, 1)],
-    &[(3, 31), (5, 1)],
-];
-
-/// What two maps have in common, and what the first one has alone.
-fn parted<R: Threads + Sync, L: Leaf<u64, u64> + Send + Sync>(
+/// Asserts what a map of 1,10 5,51 is after each of two batches.
+fn assert_batches<R: Threads + Abort + Sync, L: Leaf<u64, u64> + Send + Sync>(
     rt: &R,
     alloc: Global,
-    a: &Sums<L, 32>,
-    b: &Sums<L, 32>,
+    a: &Tool<L>,
     cut: Cut,
-) -> Result<Vec<Entries>, NoMemory> {
-    let mut lists = Vec::new(alloc);
-    let both = a.intersect(rt, alloc, &FreeGate, cut, b, &SatSum)?;
-    push_list(alloc, &mut lists, both)?;
-    let rest = a.difference(rt, alloc, &FreeGate, cut, b)?;
-    push_list(alloc, &mut lists, rest)?;
-    Ok(lists)
+) {
+    assert_has(rt, alloc, a, BUILT);
+    let puts = a
+        .multi_put(rt, alloc, &FreeGate, cut, PUTS)
+        .expect(rt, "memory");
+    assert_has(rt, alloc, &puts, AFTER_PUTS);
+    let dels = puts.multi_del(rt, alloc, &FreeGate, cut, &[1, 9]);
+    assert_made(rt, alloc, dels, AFTER_DELS);
 }
 
-const PARTS: &[&[(u64, u64)]] = &[&[(5, 52)], &[(1, 10)]];
-
-/// The union of two maps, and its entries with values of at least 31.
-fn united<R: Threads + Sync, L: Leaf<u64, u64> + Send + Sync>(
+/// Asserts what two maps have in common, and what the first one has alone.
+fn assert_parted<R: Threads + Abort + Sync, L: Leaf<u64, u64> + Send + Sync>(
     rt: &R,
     alloc: Global,
-    a: &Sums<L, 32>,
-    b: &Sums<L, 32>,
+    a: &Tool<L>,
+    b: &Tool<L>,
     cut: Cut,
-) -> Result<Vec<Entries>, NoMemory> {
-    let mut lists = Vec::new(alloc);
-    let all = a.union(rt, alloc, &FreeGate, cut, b, &SatSum)?;
-    lists.push(all.to_vec(alloc)?)?;
-    let kept = all.filter(rt, alloc, &FreeGate, cut, &AtLeast { bound: 31 })?;
-    push_list(alloc, &mut lists, kept)?;
-    Ok(lists)
+) {
+    let both = a.intersect(rt, alloc, &FreeGate, cut, b, &SatSum);
+    assert_made(rt, alloc, both, &[(5, 52)]);
+    let rest = a.difference(rt, alloc, &FreeGate, cut, b);
+    assert_made(rt, alloc, rest, &[(1, 10)]);
 }
 
-const WHOLES: &[&[(u64, u64)]] = &[&[(1, 10), (3, 31), (5, 52)], &[(3, 31), (5, 52)]];
+const UNION: &[(u64, u64)] = &[(1, 10), (3, 31), (5, 52)];
 
-/// Whether batches and combinations of maps give what they should, where `a` is 1,10 5,51 and `b` is 3,31 5,1.
-fn assert_wholes<R: Threads + Sync + Abort, L: Leaf<u64, u64> + Send + Sync>(
+/// Asserts what the union of two maps is, its entries with values of at least 31, and how many entries the first has.
+fn assert_united<R: Threads + Abort + Sync, L: Leaf<u64, u64> + Send + Sync>(
     rt: &R,
     alloc: Global,
-    a: &Sums<L, 32>,
-    b: &Sums<L, 32>,
-) -> Result<(), NoMemory> {
+    a: &Tool<L>,
+    b: &Tool<L>,
+    cut: Cut,
+) {
+    let all = a
+        .union(rt, alloc, &FreeGate, cut, b, &SatSum)
+        .expect(rt, "memory");
+    assert_has(rt, alloc, &all, UNION);
+    let kept = all.filter(rt, alloc, &FreeGate, cut, &AtLeast { bound: 31 });
+    assert_made(rt, alloc, kept, &[(3, 31), (5, 52)]);
+    let count = a.map_reduce(rt, alloc, &FreeGate, cut, &Count);
+    assert_eq!(rt; count.expect(rt, "memory"), 2);
+}
+
+/// Asserts that batches and combinations of maps give what they should, where `a` is 1,10 5,51 and `b` is 3,31 5,1.
+fn assert_wholes<R: Threads + Abort + Sync, L: Leaf<u64, u64> + Send + Sync>(
+    rt: &R,
+    alloc: Global,
+) {
     let cut = Cut::new(2, 1);
-    assert_lists(rt, &batches(rt, alloc, a, cut)?, AFTER_BATCHES);
-    assert_lists(rt, &united(rt, alloc, a, b, cut)?, WHOLES);
-    assert_lists(rt, &parted(rt, alloc, a, b, cut)?, PARTS);
-    assert_eq!(rt; a.map_reduce(rt, alloc, &FreeGate, cut, &Count)?, 2);
-    Ok(())
+    let a: Tool<L> = built(rt, alloc, PAIRS);
+    let b: Tool<L> = built(rt, alloc, OTHERS);
+    assert_batches(rt, alloc, &a, cut);
+    assert_united(rt, alloc, &a, &b, cut);
+    assert_parted(rt, alloc, &a, &b, cut);
 }
 
-/// Batches on one thread: of the map that they build, after puts, and after removals.
-fn batches_alone<L: Leaf<u64, u64>>(alloc: Global) -> Result<Vec<Entries>, NoMemory> {
-    let built: Sums<L, 32> = MapOver::build_alone(alloc, &[(5, 50), (1, 10), (5, 51)])?;
-    let mut lists = Vec::new(alloc);
-    lists.push(built.to_vec(alloc)?)?;
-    let puts = built.multi_put_alone(alloc, &[(3, 30), (5, 1), (3, 31)])?;
-    lists.push(puts.to_vec(alloc)?)?;
-    push_list(alloc, &mut lists, puts.multi_del_alone(alloc, &[1, 9])?)?;
-    Ok(lists)
+/// Asserts what batches on one thread leave.
+fn assert_batches_alone<R: Abort, L: Leaf<u64, u64>>(rt: &R, alloc: Global, a: &Tool<L>) {
+    assert_has(rt, alloc, a, BUILT);
+    let puts = a.multi_put_alone(alloc, PUTS).expect(rt, "memory");
+    assert_has(rt, alloc, &puts, AFTER_PUTS);
+    assert_made(rt, alloc, puts.multi_del_alone(alloc, &[1, 9]), AFTER_DELS);
 }
 
-/// What a map and itself have in common, and its entries with values of at least 31, on one thread.
-fn kept_alone<L: Leaf<u64, u64>>(alloc: Global, a: &Sums<L, 32>) -> Result<Vec<Entries>, NoMemory> {
-    let mut lists = Vec::new(alloc);
-    push_list(alloc, &mut lists, a.intersect_alone(alloc, a, &SatSum)?)?;
-    push_list(
-        alloc,
-        &mut lists,
-        a.filter_alone(alloc, &AtLeast { bound: 31 })?,
-    )?;
-    Ok(lists)
-}
-
-const KEPT: &[&[(u64, u64)]] = &[&[(1, 20), (5, 102)], &[(5, 51)]];
-
-/// Whether the calls on one thread give what they should, where `a` is 1,10 5,51.
-fn assert_alone<R: Abort, L: Leaf<u64, u64>>(
-    rt: &R,
-    alloc: Global,
-    a: &Sums<L, 32>,
-) -> Result<(), NoMemory> {
-    assert_lists(rt, &batches_alone::<L>(alloc)?, AFTER_BATCHES);
-    assert_lists(rt, &kept_alone(alloc, a)?, KEPT);
-    assert_eq!(rt; a.map_reduce_alone(alloc, &Count)?, 2);
-    Ok(())
+/// Asserts that the calls on one thread give what they should.
+fn assert_alone<R: Abort, L: Leaf<u64, u64>>(rt: &R, alloc: Global) {
+    let a: Result<Tool<L>, NoMemory> = MapOver::build_alone(alloc, PAIRS);
+    let a = a.expect(rt, "memory");
+    assert_batches_alone(rt, alloc, &a);
+    let twice = a.intersect_alone(alloc, &a, &SatSum);
+    assert_made(rt, alloc, twice, &[(1, 20), (5, 102)]);
+    let kept = a.filter_alone(alloc, &AtLeast { bound: 31 });
+    assert_made(rt, alloc, kept, &[(5, 51)]);
+    let count = a.map_reduce_alone(alloc, &Count);
+    assert_eq!(rt; count.expect(rt, "memory"), 2);
 }
 
 #[test]
-fn plain_maps_at_once(rt: HostRuntime) -> Result<(), Fail> {
-    let cut = Cut::new(2, 1);
-    let first = [(5, 50), (1, 10), (5, 51)];
-    let a: PlainMap<SumMax<u64>> = MapOver::build(&rt, rt.alloc(), &FreeGate, cut, &first)?;
-    let second = [(5, 1), (3, 31)];
-    let b: PlainMap<SumMax<u64>> = MapOver::build(&rt, rt.alloc(), &FreeGate, cut, &second)?;
-    assert_alone(&rt, rt.alloc(), &a)?;
-    Ok(assert_wholes(&rt, rt.alloc(), &a, &b)?)
+fn plain_maps_at_once(rt: HostRuntime) {
+    assert_alone::<HostRuntime, PlainLeaf<u64, u64>>(&rt, rt.alloc());
+    assert_wholes::<HostRuntime, PlainLeaf<u64, u64>>(&rt, rt.alloc());
 }
 
 #[test]
-fn coded_maps_at_once(rt: HostRuntime) -> Result<(), Fail> {
-    let cut = Cut::new(2, 1);
-    let first = [(5, 50), (1, 10), (5, 51)];
-    let a: CodedMap<SumMax<u64>> = MapOver::build(&rt, rt.alloc(), &FreeGate, cut, &first)?;
-    let second = [(5, 1), (3, 31)];
-    let b: CodedMap<SumMax<u64>> = MapOver::build(&rt, rt.alloc(), &FreeGate, cut, &second)?;
-    assert_alone(&rt, rt.alloc(), &a)?;
-    Ok(assert_wholes(&rt, rt.alloc(), &a, &b)?)
+fn coded_maps_at_once(rt: HostRuntime) {
+    assert_alone::<HostRuntime, DiffLeaf<u64>>(&rt, rt.alloc());
+    assert_wholes::<HostRuntime, DiffLeaf<u64>>(&rt, rt.alloc());
 }

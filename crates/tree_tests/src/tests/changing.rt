@@ -3,13 +3,13 @@ ghost use Rattle.std.specs.Prelude.{◌≡◌, ◌<◌};
 ghost use Rattle.map_model.specs.Balance.{IsBlockSize};
 
 use super::growing::listed;
-use aug_monoid::{LeafMut, NoMemory, SatSum, Share, Steps, SumMax};
+use aug_monoid::{LeafMut, SatSum, Share, Steps, SumMax};
 use diff_leaf::DiffLeaf;
 use leaf_blocks::PlainLeaf;
 use std::alloc::Global;
 use std::marker::Brand;
+use std::process::Abort;
 use std::sync::ledger::{Blank, Ledger};
-use std::test::Fail;
 use tree_base::{BlockSize, TreeOver, Width};
 use tree_changes::{del_mut, put_mut, put_with};
 use tree_points::{del, put};
@@ -25,93 +25,106 @@ fn next_number(number: u64) -> u64 {
 
 /// Changes a map in place at a key below 512 that a number gives, and answers another map with the same change: a removal
 /// after one number in three, a put after the others.
-fn change_both<L: LeafMut<u64, u64>, S: BlockSize, C: Ledger>(
+fn change_both<R: Abort, L: LeafMut<u64, u64>, S: BlockSize, C: Ledger>(
+    rt: &R,
     alloc: Global,
     own: &mut Sums<L, S>,
     copied: Sums<L, S>,
     number: u64,
     steps: &mut Steps<C>,
-) -> Result<Sums<L, S>, NoMemory> {
+) -> Sums<L, S> {
     let key = (number >> 33) % 512;
-    if (number >> 20) % 3 == 0 {
-        del_mut(alloc, own, &key, steps)?;
+    let new = if (number >> 20) % 3 == 0 {
+        del_mut(alloc, own, &key, steps).expect(rt, "memory");
         del(alloc, &copied, &key, steps)
     } else {
-        put_mut(alloc, own, key, number, steps)?;
+        put_mut(alloc, own, key, number, steps).expect(rt, "memory");
         put(alloc, &copied, key, number, steps)
-    }
+    };
+    new.expect(rt, "memory")
 }
 
 /// A thousand changes of a map in place, and of another one by copies.
-fn change_often<L: LeafMut<u64, u64>, S: BlockSize, C: Ledger>(
+fn change_often<R: Abort, L: LeafMut<u64, u64>, S: BlockSize, C: Ledger>(
+    rt: &R,
     alloc: Global,
     own: &mut Sums<L, S>,
     copied: Sums<L, S>,
     seed: u64,
     steps: &mut Steps<C>,
-) -> Result<Sums<L, S>, NoMemory> {
+) -> Sums<L, S> {
     let mut copied = copied;
     let mut number = seed;
     for _round in 0..1000 {
         number = next_number(number);
-        copied = change_both(alloc, own, copied, number, steps)?;
+        copied = change_both(rt, alloc, own, copied, number, steps);
     }
-    Ok(copied)
+    copied
 }
 
-/// Whether a map that is changed in place has the entries of one that is changed by copies, before and after it gets a
-/// second owner, which keeps the entries that it had.
-fn agree_in<L: LeafMut<u64, u64>, S: BlockSize, C: Ledger>(
+/// Asserts that two maps have the same entries, which it answers.
+fn same<R: Abort, L: LeafMut<u64, u64>, S: BlockSize>(
+    rt: &R,
     alloc: Global,
-    steps: &mut Steps<C>,
-) -> Result<bool, NoMemory>
-    requires block_size { IsBlockSize S.SIZE }
-{
-    let mut own: Sums<L, S> = TreeOver::empty();
-    let copied = change_often(alloc, &mut own, TreeOver::empty(), 1, steps)?;
-    let before = listed(alloc, &copied)?;
-    let agreed = listed(alloc, &own)? == before;
-    let second = own.share(alloc)?;
-    let copied = change_often(alloc, &mut own, copied, 2, steps)?;
-    put_with(alloc, &mut own, 512, 1, &SatSum, steps)?;
-    put_with(alloc, &mut own, 512, 2, &SatSum, steps)?;
-    let copied = put(alloc, &copied, 512, 3, steps)?;
-    let after = listed(alloc, &copied)?;
-    let agree = listed(alloc, &own)? == after;
-    let kept = listed(alloc, &second)? == before;
-    Ok(agreed && agree && kept && before != after)
+    own: &Sums<L, S>,
+    copied: &Sums<L, S>,
+) -> Vec<(u64, u64)> {
+    let entries = listed(rt, alloc, own);
+    assert_eq!(rt; entries.as_slice(), listed(rt, alloc, copied).as_slice());
+    entries
 }
 
-fn agree_counted<L: LeafMut<u64, u64>, S: BlockSize, C: Ledger>(
+/// Puts at a key that neither map has: twice in place, where the second value is added to the first, and once by a copy.
+fn put_last<R: Abort, L: LeafMut<u64, u64>, S: BlockSize, C: Ledger>(
+    rt: &R,
+    alloc: Global,
+    own: &mut Sums<L, S>,
+    copied: &Sums<L, S>,
+    steps: &mut Steps<C>,
+) -> Sums<L, S> {
+    put_with(alloc, own, 512, 1, &SatSum, steps).expect(rt, "memory");
+    put_with(alloc, own, 512, 2, &SatSum, steps).expect(rt, "memory");
+    put(alloc, copied, 512, 3, steps).expect(rt, "memory")
+}
+
+/// Asserts that a map that is changed in place has the entries of one that is changed by copies, before and after it gets a
+/// second owner, which keeps the entries that it had.
+fn assert_agree_counted<R: Abort, L: LeafMut<u64, u64>, S: BlockSize, C: Ledger>(
+    rt: &R,
     alloc: Global,
     blank: Blank,
-) -> Result<bool, NoMemory>
+)
     requires block_size { IsBlockSize S.SIZE }
     requires name { blank.name ≡ C.name }
     requires parts { blank.parts ≡ C.parts }
     requires some { 0 < blank.parts }
 {
     let mut steps = Steps::<C>::start(blank);
-    agree_in::<L, S, C>(alloc, &mut steps)
+    let mut own: Sums<L, S> = TreeOver::empty();
+    let copied = change_often(rt, alloc, &mut own, TreeOver::empty(), 1, &mut steps);
+    let before = same(rt, alloc, &own, &copied);
+    let second = own.share(alloc).expect(rt, "memory");
+    let copied = change_often(rt, alloc, &mut own, copied, 2, &mut steps);
+    let copied = put_last(rt, alloc, &mut own, &copied, &mut steps);
+    let after = same(rt, alloc, &own, &copied);
+    assert_eq!(rt; listed(rt, alloc, &second).as_slice(), before.as_slice());
+    assert!(rt; before != after);
 }
 
-fn agree<L: LeafMut<u64, u64>, S: BlockSize>(alloc: Global) -> Result<bool, NoMemory>
+fn assert_agree<R: Abort, L: LeafMut<u64, u64>, S: BlockSize>(rt: &R, alloc: Global)
     requires { IsBlockSize S.SIZE }
 {
-    agree_counted::<L, S, Brand>(alloc, Blank::new(1))
+    assert_agree_counted::<R, L, S, Brand>(rt, alloc, Blank::new(1));
 }
 
 #[test]
-fn plain_maps_changed_in_place(rt: HostRuntime) -> Result<(), Fail> {
-    let alloc = rt.alloc();
-    assert!(rt; agree::<PlainLeaf<u64, u64>, Width<1>>(alloc)?);
-    assert!(rt; agree::<PlainLeaf<u64, u64>, Width<2>>(alloc)?);
-    assert!(rt; agree::<PlainLeaf<u64, u64>, Width<32>>(alloc)?);
-    Ok(())
+fn plain_maps_changed_in_place(rt: HostRuntime) {
+    assert_agree::<HostRuntime, PlainLeaf<u64, u64>, Width<1>>(&rt, rt.alloc());
+    assert_agree::<HostRuntime, PlainLeaf<u64, u64>, Width<2>>(&rt, rt.alloc());
+    assert_agree::<HostRuntime, PlainLeaf<u64, u64>, Width<32>>(&rt, rt.alloc());
 }
 
 #[test]
-fn coded_maps_changed_in_place(rt: HostRuntime) -> Result<(), Fail> {
-    assert!(rt; agree::<DiffLeaf<u64>, Width<32>>(rt.alloc())?);
-    Ok(())
+fn coded_maps_changed_in_place(rt: HostRuntime) {
+    assert_agree::<HostRuntime, DiffLeaf<u64>, Width<32>>(&rt, rt.alloc());
 }

@@ -2,15 +2,14 @@
 ghost use Rattle.std.specs.Prelude.{◌≡◌, ◌<◌};
 ghost use Rattle.map_model.specs.Balance.{IsBlockSize};
 
-use super::growing::{Sums, rising};
-use aug_monoid::{NoMemory, Steps};
+use super::growing::{Sums, parted, rising};
+use aug_monoid::Steps;
 use join_core::{join, join2};
 use std::alloc::Global;
 use std::marker::Brand;
+use std::process::Abort;
 use std::sync::ledger::{Blank, Ledger};
-use std::test::Fail;
 use tree_base::{BlockSize, Width};
-use tree_split::split;
 
 /// A map's size, the sum of its values, and its height.
 type Outline = (u64, u64, u32);
@@ -33,87 +32,81 @@ struct Joins {
     closed: Outline,
 }
 
-fn joined_around<S: BlockSize, C: Ledger>(
+fn joined_around<R: Abort, S: BlockSize, C: Ledger>(
+    rt: &R,
     alloc: Global,
     tree: &Sums<S>,
     key: u64,
     steps: &mut Steps<C>,
-) -> Result<Joins, NoMemory> {
-    let parts = split(alloc, tree, &key, steps)?;
-    let whole = join(alloc, &parts.below, key, key, &parts.above, steps)?;
-    let closed = join2(alloc, &parts.below, &parts.above, steps)?;
-    Ok(Joins {
+) -> Joins {
+    let parts = parted(rt, alloc, tree, &key, steps);
+    let whole = join(alloc, &parts.below, key, key, &parts.above, steps).expect(rt, "memory");
+    let closed = join2(alloc, &parts.below, &parts.above, steps).expect(rt, "memory");
+    Joins {
         below: outline(&parts.below),
         above: outline(&parts.above),
         whole: outline(&whole),
         closed: outline(&closed),
-    })
+    }
 }
 
 /// The outlines around the second key and around the last but one, of the map of the keys from 1 to 100002.
-fn around_in<S: BlockSize, C: Ledger>(
-    alloc: Global,
-    steps: &mut Steps<C>,
-) -> Result<[Joins; 2], NoMemory>
-    requires block_size { IsBlockSize S.SIZE }
-{
-    let tree: Sums<S> = rising(alloc, 100003, steps)?;
-    let low = joined_around(alloc, &tree, 2, steps)?;
-    let high = joined_around(alloc, &tree, 100001, steps)?;
-    Ok([low, high])
-}
-
-fn around_counted<S: BlockSize, C: Ledger>(
+fn around_counted<R: Abort, S: BlockSize, C: Ledger>(
+    rt: &R,
     alloc: Global,
     blank: Blank,
-) -> Result<[Joins; 2], NoMemory>
+) -> (Joins, Joins)
     requires block_size { IsBlockSize S.SIZE }
     requires name { blank.name ≡ C.name }
     requires parts { blank.parts ≡ C.parts }
     requires some { 0 < blank.parts }
 {
     let mut steps = Steps::<C>::start(blank);
-    around_in::<S, C>(alloc, &mut steps)
-}
-
-fn around<S: BlockSize>(alloc: Global) -> Result<[Joins; 2], NoMemory>
-    requires { IsBlockSize S.SIZE }
-{
-    around_counted::<S, Brand>(alloc, Blank::new(1))
+    let tree: Sums<S> = rising(rt, alloc, 100003, &mut steps);
+    let low = joined_around(rt, alloc, &tree, 2, &mut steps);
+    let high = joined_around(rt, alloc, &tree, 100001, &mut steps);
+    (low, high)
 }
 
 /// Whether a map has a size, a sum of its values, and at most a height.
 fn is_outline(outline: Outline, size: u64, sum: u64, height: u32) -> bool {
-    outline.0 == size && outline.1 == sum && outline.2 <= height
+    let (all, total, top) = outline;
+    (all, total) == (size, sum) && top <= height
 }
 
 /// Whether a map of one entry and a map of 100000 were joined both ways, into maps of at most a height.
-fn joined_within(joins: [Joins; 2], height: u32) -> bool {
-    let [low, high] = joins;
-    is_outline(low.below, 1, 1, 0)
-        && is_outline(low.above, 100000, 5000250000, height)
-        && is_outline(low.whole, 100002, 5000250003, height)
-        && is_outline(low.closed, 100001, 5000250001, height)
-        && is_outline(high.below, 100000, 5000050000, height)
-        && is_outline(high.above, 1, 100002, 0)
-        && is_outline(high.whole, 100002, 5000250003, height)
-        && is_outline(high.closed, 100001, 5000150002, height)
+fn joined_within<R: Abort, S: BlockSize>(rt: &R, alloc: Global, height: u32) -> bool
+    requires { IsBlockSize S.SIZE }
+{
+    let (low, high) = around_counted::<R, S, Brand>(rt, alloc, Blank::new(1));
+    low_within(low, height) && high_within(high, height)
+}
+
+fn low_within(joins: Joins, height: u32) -> bool {
+    is_outline(joins.below, 1, 1, 0)
+        && is_outline(joins.above, 100000, 5000250000, height)
+        && is_outline(joins.whole, 100002, 5000250003, height)
+        && is_outline(joins.closed, 100001, 5000250001, height)
+}
+
+fn high_within(joins: Joins, height: u32) -> bool {
+    is_outline(joins.below, 100000, 5000050000, height)
+        && is_outline(joins.above, 1, 100002, 0)
+        && is_outline(joins.whole, 100002, 5000250003, height)
+        && is_outline(joins.closed, 100001, 5000150002, height)
 }
 
 #[test]
-fn one_entry_and_many_in_blocks_of_one(rt: HostRuntime) -> Result<(), Fail> {
-    assert!(rt; joined_within(around::<Width<1>>(rt.alloc())?, 37));
-    Ok(())
+fn one_entry_and_many_in_blocks_of_one(rt: HostRuntime) {
+    assert!(rt; joined_within::<HostRuntime, Width<1>>(&rt, rt.alloc(), 37));
 }
 
 #[test]
-fn one_entry_and_many_in_blocks_of_two(rt: HostRuntime) -> Result<(), Fail> {
-    assert!(rt; joined_within(around::<Width<2>>(rt.alloc())?, 36));
-    Ok(())
+fn one_entry_and_many_in_blocks_of_two(rt: HostRuntime) {
+    assert!(rt; joined_within::<HostRuntime, Width<2>>(&rt, rt.alloc(), 36));
 }
 
 #[test]
-fn one_entry_and_many_in_blocks_of_32(rt: HostRuntime) -> Result<(), Fail> {
-    assert!(rt; joined_within(around::<Width<32>>(rt.alloc())?, 27));
-    Ok(())
+fn one_entry_and_many_in_blocks_of_32(rt: HostRuntime) {
+    assert!(rt; joined_within::<HostRuntime, Width<32>>(&rt, rt.alloc(), 27));
 }

@@ -10,6 +10,7 @@ use aug_monoid::{Key, NoMemory, Share, Steps};
 use std::alloc::Global;
 use std::cmp;
 use std::marker::Model;
+use std::process::Abort;
 use std::sync::Arc;
 use std::sync::atomic::{AtomicBool, AtomicU64, Ordering};
 use std::sync::ledger::Ledger;
@@ -24,14 +25,12 @@ pub(crate) struct Probe {
 }
 
 impl Probe {
-    pub(crate) fn start(alloc: Global) -> Result<Arc<Probe>, NoMemory> {
-        Ok(Arc::new(
-            alloc,
-            Probe {
-                comparisons: AtomicU64::new(0),
-                refuses: AtomicBool::new(false),
-            },
-        )?)
+    pub(crate) fn start<R: Abort>(rt: &R, alloc: Global) -> Arc<Probe> {
+        let probe = Probe {
+            comparisons: AtomicU64::new(0),
+            refuses: AtomicBool::new(false),
+        };
+        Arc::new(alloc, probe).expect(rt, "memory")
     }
 
     pub(crate) fn comparisons(&self) -> u64 {
@@ -59,11 +58,19 @@ impl Model for ProbeKey {
 }
 
 impl ProbeKey {
-    pub(crate) fn new(number: u64, probe: &Arc<Probe>) -> Result<ProbeKey, NoMemory>
+    fn new(number: u64, probe: &Arc<Probe>) -> Result<ProbeKey, NoMemory>
         ensures { IfOk result (λ key. key ≡ number) }
     {
         let probe = Arc::try_clone(probe)?;
         Ok(ProbeKey { number, probe })
+    }
+
+    /// The key of a number. Where memory is refused, the test ends here.
+    pub(crate) fn made<R: Abort>(rt: &R, number: u64, probe: &Arc<Probe>) -> ProbeKey
+        ensures { result ≡ number }
+    {
+        let probe = Arc::try_clone(probe).expect(rt, "memory");
+        ProbeKey { number, probe }
     }
 
     pub(crate) fn number(&self) -> u64 {

@@ -3,7 +3,7 @@ ghost use Rattle.std.specs.Prelude.{◌≡◌, ◌+◌, ◌<◌, IfOk, IsOk};
 ghost use Rattle.std.proofs.Common.{arith};
 ghost use Rattle.map_model.specs.Balance.{IsBlockSize};
 
-use super::growing::listed;
+use super::growing::{listed, parted};
 use super::probe::{Probe, ProbeKey};
 use super::watching::{Watched, rising_watched};
 use aug_monoid::{Augment, NoMemory, Steps};
@@ -11,70 +11,73 @@ use join_core::{join, join2};
 use leaf_blocks::PlainLeaf;
 use std::alloc::Global;
 use std::marker::Brand;
+use std::process::Abort;
 use std::sync::Arc;
 use std::sync::ledger::{Blank, Ledger};
-use std::test::Fail;
 use tree_base::{BlockSize, TreeOver, Width};
 use tree_points::{del, get, put};
 use tree_split::{expose, split};
 
 /// Which of `get`, `put` and `del` are refused where shares of keys are: `get` shares no key.
-fn refused_points<S: BlockSize, C: Ledger>(
+fn refused_points<R: Abort, S: BlockSize, C: Ledger>(
+    rt: &R,
     alloc: Global,
     probe: &Arc<Probe>,
     tree: &Watched<S>,
     steps: &mut Steps<C>,
-) -> Result<(bool, bool, bool), NoMemory> {
-    let first = ProbeKey::new(1, probe)?;
-    let last = ProbeKey::new(10, probe)?;
+) -> (bool, bool, bool) {
+    let first = ProbeKey::made(rt, 1, probe);
+    let last = ProbeKey::made(rt, 10, probe);
     probe.refuse(true);
     let got = get(alloc, tree, &first, steps).is_err();
     let put = put(alloc, tree, last, 10, steps).is_err();
     let deleted = del(alloc, tree, &first, steps).is_err();
     probe.refuse(false);
-    Ok((got, put, deleted))
+    (got, put, deleted)
 }
 
 /// Which of `join` and `join2` are refused where shares are.
-fn refused_joins<S: BlockSize, C: Ledger>(
+fn refused_joins<R: Abort, S: BlockSize, C: Ledger>(
+    rt: &R,
     alloc: Global,
     probe: &Arc<Probe>,
     tree: &Watched<S>,
     steps: &mut Steps<C>,
-) -> Result<(bool, bool), NoMemory> {
-    let middle = ProbeKey::new(5, probe)?;
-    let parts = split(alloc, tree, &middle, steps)?;
+) -> (bool, bool) {
+    let middle = ProbeKey::made(rt, 5, probe);
+    let parts = parted(rt, alloc, tree, &middle, steps);
     probe.refuse(true);
     let closed = join2(alloc, &parts.below, &parts.above, steps).is_err();
     let joined = join(alloc, &parts.below, middle, 5, &parts.above, steps).is_err();
     probe.refuse(false);
-    Ok((joined, closed))
+    (joined, closed)
 }
 
 /// Which of `split`, `expose` and `push_entries` are refused where shares are.
-fn refused_wholes<S: BlockSize, C: Ledger>(
+fn refused_wholes<R: Abort, S: BlockSize, C: Ledger>(
+    rt: &R,
     alloc: Global,
     probe: &Arc<Probe>,
     tree: &Watched<S>,
     steps: &mut Steps<C>,
-) -> Result<(bool, bool, bool), NoMemory> {
-    let middle = ProbeKey::new(5, probe)?;
+) -> (bool, bool, bool) {
+    let middle = ProbeKey::made(rt, 5, probe);
     probe.refuse(true);
     let split = split(alloc, tree, &middle, steps).is_err();
     let exposed = expose(alloc, tree).is_err();
-    let listed = listed(alloc, tree).is_err();
+    let listed = tree.push_entries(alloc, &mut Vec::new(alloc)).is_err();
     probe.refuse(false);
-    Ok((split, exposed, listed))
+    (split, exposed, listed)
 }
 
 /// The numbers and values of a map's entries.
-fn numbers<S: BlockSize>(alloc: Global, tree: &Watched<S>) -> Result<Vec<(u64, u64)>, NoMemory> {
-    let entries = listed(alloc, tree)?;
+fn numbers<R: Abort, S: BlockSize>(rt: &R, alloc: Global, tree: &Watched<S>) -> Vec<(u64, u64)> {
+    let entries = listed(rt, alloc, tree);
     let mut numbers = Vec::new(alloc);
     for (key, val) in &entries {
-        numbers.push((key.number(), *val))?;
+        numbers.push((key.number(), *val)).expect(rt, "memory");
     }
-    Ok(numbers)
+    numbers
 }
 
 /// What was refused while shares were, and whether the map's entries were the same after.
@@ -86,58 +89,52 @@ struct Refusals {
     is_unchanged: bool,
 }
 
-fn refused_in<S: BlockSize, C: Ledger>(
-    alloc: Global,
-    steps: &mut Steps<C>,
-) -> Result<Refusals, NoMemory>
-    requires block_size { IsBlockSize S.SIZE }
-{
-    let probe = Probe::start(alloc)?;
-    let tree: Watched<S> = rising_watched(alloc, &probe, 10, steps)?;
-    let before = numbers(alloc, &tree)?;
-    let points = refused_points(alloc, &probe, &tree, steps)?;
-    let joins = refused_joins(alloc, &probe, &tree, steps)?;
-    let wholes = refused_wholes(alloc, &probe, &tree, steps)?;
-    let after = numbers(alloc, &tree)?;
-    Ok(Refusals {
-        points,
-        joins,
-        wholes,
-        is_unchanged: after == before,
-    })
-}
-
-fn refused_counted<S: BlockSize, C: Ledger>(
+fn refused_counted<R: Abort, S: BlockSize, C: Ledger>(
+    rt: &R,
     alloc: Global,
     blank: Blank,
-) -> Result<Refusals, NoMemory>
+) -> Refusals
     requires block_size { IsBlockSize S.SIZE }
     requires name { blank.name ≡ C.name }
     requires parts { blank.parts ≡ C.parts }
     requires some { 0 < blank.parts }
 {
     let mut steps = Steps::<C>::start(blank);
-    refused_in::<S, C>(alloc, &mut steps)
+    let probe = Probe::start(rt, alloc);
+    let tree: Watched<S> = rising_watched(rt, alloc, &probe, 10, &mut steps);
+    let before = numbers(rt, alloc, &tree);
+    let points = refused_points(rt, alloc, &probe, &tree, &mut steps);
+    let joins = refused_joins(rt, alloc, &probe, &tree, &mut steps);
+    let wholes = refused_wholes(rt, alloc, &probe, &tree, &mut steps);
+    Refusals {
+        points,
+        joins,
+        wholes,
+        is_unchanged: numbers(rt, alloc, &tree) == before,
+    }
 }
 
-fn refused<S: BlockSize>(alloc: Global) -> Result<Refusals, NoMemory>
+fn refused<R: Abort, S: BlockSize>(rt: &R, alloc: Global) -> Refusals
     requires { IsBlockSize S.SIZE }
 {
-    refused_counted::<S, Brand>(alloc, Blank::new(1))
+    refused_counted::<R, S, Brand>(rt, alloc, Blank::new(1))
 }
 
 #[test]
-fn a_refused_share_leaves_the_map(rt: HostRuntime) -> Result<(), Fail> {
-    let nodes = refused::<Width<2>>(rt.alloc())?;
+fn a_refused_share_leaves_the_map(rt: HostRuntime) {
+    let nodes = refused::<HostRuntime, Width<2>>(&rt, rt.alloc());
     assert_eq!(rt; nodes.points, (false, true, true));
     assert_eq!(rt; nodes.wholes, (true, true, true));
     assert!(rt; nodes.is_unchanged);
-    let block = refused::<Width<32>>(rt.alloc())?;
+}
+
+#[test]
+fn a_refused_share_leaves_a_map_of_one_block(rt: HostRuntime) {
+    let block = refused::<HostRuntime, Width<32>>(&rt, rt.alloc());
     assert_eq!(rt; block.points, (false, true, true));
     assert_eq!(rt; block.joins, (true, true));
     assert_eq!(rt; block.wholes, (true, true, true));
     assert!(rt; block.is_unchanged);
-    Ok(())
 }
 
 /// The sum of the values. A sum past the greatest number is refused.
@@ -193,42 +190,34 @@ impl Augment for CheckedSum {
 type Checked<S> = TreeOver<CheckedSum, PlainLeaf<u64, u64>, S>;
 
 /// Whether a map of nine keys refuses a value that is too large for its sum, and its fold and size after.
-fn overfull_in<S: BlockSize, C: Ledger>(
-    alloc: Global,
-    steps: &mut Steps<C>,
-) -> Result<(bool, Option<u64>, u64), NoMemory>
-    requires block_size { IsBlockSize S.SIZE }
-{
-    let mut tree: Checked<S> = TreeOver::empty();
-    for key in 1..10 {
-        tree = put(alloc, &tree, key, key, steps)?;
-    }
-    let refused = put(alloc, &tree, 10, u64::MAX, steps).is_err();
-    Ok((refused, tree.aug().copied(), tree.size()))
-}
-
-fn overfull_counted<S: BlockSize, C: Ledger>(
+fn overfull_counted<R: Abort, S: BlockSize, C: Ledger>(
+    rt: &R,
     alloc: Global,
     blank: Blank,
-) -> Result<(bool, Option<u64>, u64), NoMemory>
+) -> (bool, Option<u64>, u64)
     requires block_size { IsBlockSize S.SIZE }
     requires name { blank.name ≡ C.name }
     requires parts { blank.parts ≡ C.parts }
     requires some { 0 < blank.parts }
 {
     let mut steps = Steps::<C>::start(blank);
-    overfull_in::<S, C>(alloc, &mut steps)
+    let mut tree: Checked<S> = TreeOver::empty();
+    for key in 1..10 {
+        tree = put(alloc, &tree, key, key, &mut steps).expect(rt, "memory");
+    }
+    let refused = put(alloc, &tree, 10, u64::MAX, &mut steps).is_err();
+    (refused, tree.aug().copied(), tree.size())
 }
 
-fn overfull<S: BlockSize>(alloc: Global) -> Result<(bool, Option<u64>, u64), NoMemory>
+fn overfull<R: Abort, S: BlockSize>(rt: &R, alloc: Global) -> (bool, Option<u64>, u64)
     requires { IsBlockSize S.SIZE }
 {
-    overfull_counted::<S, Brand>(alloc, Blank::new(1))
+    overfull_counted::<R, S, Brand>(rt, alloc, Blank::new(1))
 }
 
 #[test]
-fn a_refused_fold_leaves_the_map(rt: HostRuntime) -> Result<(), Fail> {
-    assert_eq!(rt; overfull::<Width<1>>(rt.alloc())?, (true, Some(45), 9));
-    assert_eq!(rt; overfull::<Width<32>>(rt.alloc())?, (true, Some(45), 9));
-    Ok(())
+fn a_refused_fold_leaves_the_map(rt: HostRuntime) {
+    let wanted = (true, Some(45), 9);
+    assert_eq!(rt; overfull::<HostRuntime, Width<1>>(&rt, rt.alloc()), wanted);
+    assert_eq!(rt; overfull::<HostRuntime, Width<32>>(&rt, rt.alloc()), wanted);
 }

@@ -3,33 +3,59 @@ ghost use Rattle.std.specs.Prelude.{◌≡◌, ◌<◌};
 ghost use Rattle.map_model.specs.Balance.{IsBlockSize};
 
 use super::probe::{Probe, ProbeKey};
-use aug_monoid::{NoMemory, Nothing, Steps};
+use aug_monoid::{Nothing, Steps};
 use leaf_blocks::PlainLeaf;
 use std::alloc::Global;
 use std::marker::Brand;
+use std::process::Abort;
 use std::sync::Arc;
 use std::sync::ledger::{Blank, Ledger};
-use std::test::Fail;
 use tree_base::{BlockSize, TreeOver, Width};
 use tree_points::{get, put};
 
 pub(crate) type Watched<S> = TreeOver<Nothing<ProbeKey, u64>, PlainLeaf<ProbeKey, u64>, S>;
 
 /// The keys from 1 to below a number, put in rising order, each with its number as value.
-pub(crate) fn rising_watched<S: BlockSize, C: Ledger>(
+pub(crate) fn rising_watched<R: Abort, S: BlockSize, C: Ledger>(
+    rt: &R,
     alloc: Global,
     probe: &Arc<Probe>,
     end: u64,
     steps: &mut Steps<C>,
-) -> Result<Watched<S>, NoMemory>
+) -> Watched<S>
     requires { IsBlockSize S.SIZE }
 {
     let mut tree: Watched<S> = TreeOver::empty();
     for number in 1..end {
-        let key = ProbeKey::new(number, probe)?;
-        tree = put(alloc, &tree, key, number, steps)?;
+        let key = ProbeKey::made(rt, number, probe);
+        tree = put(alloc, &tree, key, number, steps).expect(rt, "memory");
     }
-    Ok(tree)
+    tree
+}
+
+/// What a look-up did: whether it found its key, and how many comparisons it took.
+#[derive(Clone, Copy)]
+struct Lookup {
+    is_found: bool,
+    comparisons: u64,
+}
+
+/// The look-up of a number.
+fn looked_up<R: Abort, S: BlockSize, C: Ledger>(
+    rt: &R,
+    alloc: Global,
+    probe: &Arc<Probe>,
+    tree: &Watched<S>,
+    number: u64,
+    steps: &mut Steps<C>,
+) -> Lookup {
+    let key = ProbeKey::made(rt, number, probe);
+    let before = probe.comparisons();
+    let val = get(alloc, tree, &key, steps).expect(rt, "memory");
+    Lookup {
+        is_found: val == Some(number),
+        comparisons: probe.comparisons().saturating_sub(before),
+    }
 }
 
 /// What look-ups did: how many found their key, and how many comparisons one took at most.
@@ -39,95 +65,71 @@ struct Lookups {
     most: u64,
 }
 
-/// The look-ups with the one of a number.
-fn looked_up<S: BlockSize, C: Ledger>(
-    alloc: Global,
-    probe: &Arc<Probe>,
-    tree: &Watched<S>,
-    number: u64,
-    lookups: Lookups,
-    steps: &mut Steps<C>,
-) -> Result<Lookups, NoMemory> {
-    let key = ProbeKey::new(number, probe)?;
-    let before = probe.comparisons();
-    let val = get(alloc, tree, &key, steps)?;
-    let taken = probe.comparisons().saturating_sub(before);
-    let found = if val == Some(number) {
-        lookups.found.saturating_add(1)
-    } else {
-        lookups.found
-    };
-    Ok(Lookups {
-        found,
-        most: lookups.most.max(taken),
-    })
+impl Lookups {
+    /// The look-ups with one more.
+    fn with(self, lookup: Lookup) -> Lookups {
+        Lookups {
+            found: self.found.saturating_add(lookup.is_found as u64),
+            most: self.most.max(lookup.comparisons),
+        }
+    }
 }
 
 /// The look-ups of the numbers below a number.
-fn watched_lookups<S: BlockSize, C: Ledger>(
+fn watched_lookups<R: Abort, S: BlockSize, C: Ledger>(
+    rt: &R,
     alloc: Global,
     probe: &Arc<Probe>,
     tree: &Watched<S>,
     count: u64,
     steps: &mut Steps<C>,
-) -> Result<Lookups, NoMemory> {
+) -> Lookups {
     let mut lookups = Lookups { found: 0, most: 0 };
     for number in 0..count {
-        lookups = looked_up(alloc, probe, tree, number, lookups, steps)?;
+        lookups = lookups.with(looked_up(rt, alloc, probe, tree, number, steps));
     }
-    Ok(lookups)
+    lookups
 }
 
 /// The look-ups in a map of 100000 entries, and its height.
-fn lookups_in<S: BlockSize, C: Ledger>(
-    alloc: Global,
-    steps: &mut Steps<C>,
-) -> Result<(Lookups, u32), NoMemory>
-    requires block_size { IsBlockSize S.SIZE }
-{
-    let probe = Probe::start(alloc)?;
-    let tree: Watched<S> = rising_watched(alloc, &probe, 100001, steps)?;
-    let lookups = watched_lookups(alloc, &probe, &tree, 100002, steps)?;
-    Ok((lookups, tree.height()))
-}
-
-fn lookups_counted<S: BlockSize, C: Ledger>(
+fn lookups_counted<R: Abort, S: BlockSize, C: Ledger>(
+    rt: &R,
     alloc: Global,
     blank: Blank,
-) -> Result<(Lookups, u32), NoMemory>
+) -> (Lookups, u32)
     requires block_size { IsBlockSize S.SIZE }
     requires name { blank.name ≡ C.name }
     requires parts { blank.parts ≡ C.parts }
     requires some { 0 < blank.parts }
 {
     let mut steps = Steps::<C>::start(blank);
-    lookups_in::<S, C>(alloc, &mut steps)
+    let probe = Probe::start(rt, alloc);
+    let tree: Watched<S> = rising_watched(rt, alloc, &probe, 100001, &mut steps);
+    let lookups = watched_lookups(rt, alloc, &probe, &tree, 100002, &mut steps);
+    (lookups, tree.height())
 }
 
 /// Whether the look-ups in a map of 100000 entries found those and took no more comparisons than they may, which are the
 /// height and 9.
-fn are_within<S: BlockSize>(alloc: Global) -> Result<bool, NoMemory>
+fn are_within<R: Abort, S: BlockSize>(rt: &R, alloc: Global) -> bool
     requires { IsBlockSize S.SIZE }
 {
-    let (lookups, height) = lookups_counted::<S, Brand>(alloc, Blank::new(1))?;
+    let (lookups, height) = lookups_counted::<R, S, Brand>(rt, alloc, Blank::new(1));
     let most = height as u64 + 9;
-    Ok(lookups.found == 100000 && 0 < lookups.most && lookups.most <= most)
+    lookups.found == 100000 && 0 < lookups.most && lookups.most <= most
 }
 
 #[test]
-fn lookups_in_blocks_of_one(rt: HostRuntime) -> Result<(), Fail> {
-    assert!(rt; are_within::<Width<1>>(rt.alloc())?);
-    Ok(())
+fn lookups_in_blocks_of_one(rt: HostRuntime) {
+    assert!(rt; are_within::<HostRuntime, Width<1>>(&rt, rt.alloc()));
 }
 
 #[test]
-fn lookups_in_blocks_of_two(rt: HostRuntime) -> Result<(), Fail> {
-    assert!(rt; are_within::<Width<2>>(rt.alloc())?);
-    Ok(())
+fn lookups_in_blocks_of_two(rt: HostRuntime) {
+    assert!(rt; are_within::<HostRuntime, Width<2>>(&rt, rt.alloc()));
 }
 
 #[test]
-fn lookups_in_blocks_of_32(rt: HostRuntime) -> Result<(), Fail> {
-    assert!(rt; are_within::<Width<32>>(rt.alloc())?);
-    Ok(())
+fn lookups_in_blocks_of_32(rt: HostRuntime) {
+    assert!(rt; are_within::<HostRuntime, Width<32>>(&rt, rt.alloc()));
 }

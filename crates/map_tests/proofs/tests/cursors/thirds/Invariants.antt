@@ -1,4 +1,4 @@
 use Rattle.map_tests.proofs.tests.cursors.thirds.Given as goal
 
 abbrev pub invariant-loop-at : goal.invariant-loop-at
-invariant-loop-at l = Unit {0}
+invariant-loop-at g l = Unit {0}

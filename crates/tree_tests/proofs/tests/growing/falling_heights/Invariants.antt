@@ -1,4 +1,4 @@
 use Rattle.tree_tests.proofs.tests.growing.falling_heights.Given as goal
 
-abbrev pub invariant-loop-gone : goal.invariant-loop-gone
-invariant-loop-gone g l = Unit {0}
+abbrev pub invariant-loop-key : goal.invariant-loop-key
+invariant-loop-key g l = Unit {0}

@@ -7,11 +7,11 @@ use Rattle.tree_tests.proofs.tests.refusing.refused_joins.Goals as goal
 pub join2-requires : goal.join2-requires
 join2-requires g c =
     let entries = c.args.tree.now.entries in
-    let key = c.in_ok-middle.middle in
-    record { before = rw (c.in_ok-parts.ensures.below, c.in_ok-parts.ensures.above) (IsBefore-around nat_cmp_total _ key _ (AllKeys-below nat_cmp entries key) (AllKeys-above nat_cmp_total entries key)) }
+    let key = c.made-middle.result in
+    record { before = rw (c.parted-parts.ensures.below, c.parted-parts.ensures.above) (IsBefore-around nat_cmp_total _ key _ (AllKeys-below nat_cmp entries key) (AllKeys-above nat_cmp_total entries key)) }
 
 pub join-requires-clause-below : goal.join-requires-clause-below
-join-requires-clause-below g c = rw c.in_ok-parts.ensures.below (AllKeys-below nat_cmp c.args.tree.now.entries c.in_ok-middle.middle)
+join-requires-clause-below g c = rw c.parted-parts.ensures.below (AllKeys-below nat_cmp c.args.tree.now.entries c.made-middle.result)
 
 pub join-requires-clause-above : goal.join-requires-clause-above
-join-requires-clause-above g c = rw c.in_ok-parts.ensures.above (AllKeys-above nat_cmp_total c.args.tree.now.entries c.in_ok-middle.middle)
+join-requires-clause-above g c = rw c.parted-parts.ensures.above (AllKeys-above nat_cmp_total c.args.tree.now.entries c.made-middle.result)

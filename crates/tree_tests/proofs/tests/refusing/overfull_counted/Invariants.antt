@@ -1,4 +1,4 @@
-use Rattle.map_tests.proofs.tests.nested.first_weight_in.Given as goal
+use Rattle.tree_tests.proofs.tests.refusing.overfull_counted.Given as goal
 
 abbrev pub invariant-loop-key : goal.invariant-loop-key
 invariant-loop-key g l = Unit {0}

@@ -1,4 +1,4 @@
-use Rattle.tree_tests.proofs.tests.growing.without_front.Given as goal
+use Rattle.map_tests.proofs.tests.nested.first_weight_counted.Given as goal
 
 abbrev pub invariant-loop-key : goal.invariant-loop-key
 invariant-loop-key g l = Unit {0}

@@ -1,4 +1,4 @@
-use Rattle.tree_tests.proofs.tests.refusing.overfull_in.Goals as goal
+use Rattle.tree_tests.proofs.tests.refusing.overfull_counted.Goals as goal
 
 pub loop-key-preserved : goal.loop-key-preserved
 loop-key-preserved g c = tt

@@ -1,4 +1,4 @@
-use Rattle.tree_tests.proofs.tests.joining.around.Given as goal
+use Rattle.tree_tests.proofs.tests.joining.joined_within.Given as goal
 
 abbrev pub ghosts-around_counted : goal.ghosts-around_counted
 ghosts-around_counted g a = record { name = a.blank.name; parts = a.blank.parts }

@@ -1,4 +1,0 @@
-use Rattle.tree_tests.proofs.tests.refusing.overfull_in.Given as goal
-
-abbrev pub invariant-loop-key : goal.invariant-loop-key
-invariant-loop-key g l = Unit {0}
