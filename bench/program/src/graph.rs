@@ -1,16 +1,16 @@
 //! The tool graph over a `BTreeMap` of sorted adjacency lists, which a kept snapshot copies.
 use crate::records::{number, pairs, records};
 use crate::replies::line;
-use std::collections::{BTreeMap, VecDeque};
+use std::collections::{BTreeMap, HashSet};
 
 #[derive(Clone, Default)]
-struct Graph {
+pub struct Graph {
     lists: BTreeMap<u64, Vec<u64>>,
     edges: u64,
 }
 
 impl Graph {
-    fn add(&mut self, from: u64, to: u64) {
+    pub fn add(&mut self, from: u64, to: u64) {
         let list = self.lists.entry(from).or_default();
         if let Err(place) = list.binary_search(&to) {
             list.insert(place, to);
@@ -18,7 +18,7 @@ impl Graph {
         }
     }
 
-    fn cut(&mut self, from: u64, to: u64) {
+    pub fn cut(&mut self, from: u64, to: u64) {
         let Some(list) = self.lists.get_mut(&from) else {
             return;
         };
@@ -31,16 +31,24 @@ impl Graph {
         }
     }
 
-    fn reached(&self, from: u64) -> BTreeMap<u64, u64> {
-        let mut found = BTreeMap::from([(from, 0)]);
-        let mut next = VecDeque::from([(from, 0)]);
-        while let Some((vertex, distance)) = next.pop_front() {
-            for to in self.lists.get(&vertex).into_iter().flatten() {
-                if !found.contains_key(to) {
-                    found.insert(*to, distance + 1);
-                    next.push_back((*to, distance + 1));
-                }
-            }
+    pub fn degree(&self, vertex: u64) -> u64 {
+        self.lists.get(&vertex).map_or(0, Vec::len) as u64
+    }
+
+    /// How many vertices have an out-neighbour, and how many edges there are.
+    pub fn size(&self) -> [u64; 2] {
+        [self.lists.len() as u64, self.edges]
+    }
+
+    /// What can be reached from a vertex, with the distances, in the order in which it is found.
+    pub fn reached(&self, from: u64) -> Vec<(u64, u64)> {
+        let mut seen = HashSet::from([from]);
+        let mut found = vec![(from, 0)];
+        let mut at = 0;
+        while let Some(&(vertex, distance)) = found.get(at) {
+            let near = self.lists.get(&vertex).into_iter().flatten();
+            found.extend(near.filter(|to| seen.insert(**to)).map(|to| (*to, distance + 1)));
+            at += 1;
         }
         found
     }
@@ -76,9 +84,10 @@ fn label(out: &mut Vec<u8>, graph: &Graph) {
     line(out, "comp", std::iter::once(found.len() as u64).chain(found.into_iter().flatten()));
 }
 
-fn search(out: &mut Vec<u8>, graph: &Graph, from: u64) {
-    let found = graph.reached(from);
-    let numbers = found.iter().flat_map(|hit| [*hit.0, *hit.1]);
+/// Writes what a search found, by vertex.
+pub fn list_reached(out: &mut Vec<u8>, mut found: Vec<(u64, u64)>) {
+    found.sort_unstable();
+    let numbers = found.iter().flat_map(|hit| [hit.0, hit.1]);
     line(out, "bfs", std::iter::once(found.len() as u64).chain(numbers));
 }
 
@@ -101,12 +110,12 @@ pub fn run(input: &[u8]) -> Vec<u8> {
                 line(&mut out, "kept", [kept.len() as u64]);
                 kept.push(graph.clone());
             }
-            b"size" => line(&mut out, "graph", [graph.lists.len() as u64, graph.edges]),
-            b"degree" => line(&mut out, "degree", [graph.lists.get(&number(record[1])).map_or(0, Vec::len) as u64]),
+            b"size" => line(&mut out, "graph", graph.size()),
+            b"degree" => line(&mut out, "degree", [graph.degree(number(record[1]))]),
             b"comp" => label(&mut out, &graph),
-            b"now" => search(&mut out, &graph, number(record[1])),
+            b"now" => list_reached(&mut out, graph.reached(number(record[1]))),
             b"bfs" => match kept.get(number(record[1]) as usize) {
-                Some(snapshot) => search(&mut out, snapshot, number(record[2])),
+                Some(snapshot) => list_reached(&mut out, snapshot.reached(number(record[2]))),
                 None => line(&mut out, "none", []),
             },
             _ => {}

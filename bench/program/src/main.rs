@@ -2,9 +2,10 @@
 //!
 //! `program_baseline map` reads standard input whole, then all its lines, then runs them, and writes the replies at once, as
 //! `pam map` does. `program_baseline sample SIZE SEED` does what `pam --size SIZE --seed SEED sample` does. The words `interval scan`,
-//! `interval tree`, `points`, `index`, `graph` and `check` run these tools, on lawful scripts alone.
+//! `interval tree`, `points`, `index`, `graph`, `gserve mutex`, `gserve rwlock` and `check` run these tools, on lawful scripts alone.
 mod check;
 mod graph;
+mod gserve;
 mod index;
 mod intervals;
 mod points;
@@ -48,6 +49,8 @@ fn main() -> io::Result<ExitCode> {
         ["points"] => run(points::run),
         ["index"] => run(index::run),
         ["graph"] => run(graph::run),
+        ["gserve", "mutex"] => run(|input| gserve::run(input, gserve::Lock::Mutex)),
+        ["gserve", "rwlock"] => run(|input| gserve::run(input, gserve::Lock::RwLock)),
         ["check"] => run(check::run),
         ["sample", size, seed] => match (size.parse(), seed.parse()) {
             (Ok(size), Ok(seed)) => write(&registers::run(sample::commands(size, seed)), 0),
