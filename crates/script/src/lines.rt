@@ -35,11 +35,15 @@ fn push_bytes(out: &mut Vec<u8>, bytes: &[u8]) -> Result<(), NoMemory>
     }
 }
 
+#[tactic(auto, using(std::proofs::lemmas::Fmt::decimal_digit))]
 fn push_number(out: &mut Vec<u8>, number: u64) -> Result<(), NoMemory>
     ensures items { MatchResult result (λ _. out.new.items ≡ out.old.items ++ decimal number) (λ _. out.new.items ≡ out.old.items) }
     ensures capacity { vec_capacity out.old ≤ vec_capacity out.new }
     ensures full { OnErr result (vec_capacity out.old < length out.old.items + length (decimal number)) }
 {
+    if number < 10 {
+        return Ok(out.push(b'0' + number as u8)?);
+    }
     let mut buffer = Buffer::new();
     push_bytes(out, buffer.format(number).as_bytes())
 }
@@ -74,7 +78,7 @@ fn append_line(out: &mut Vec<u8>, word: &str, numbers: &[u64]) -> Result<(), NoM
     for number in numbers {
         push_part(out, *number)?;
     }
-    push_bytes(out, b"\n")
+    Ok(out.push(b'\n')?)
 }
 
 /// Appends a line, or nothing. It is not refused where the text has room for it.
