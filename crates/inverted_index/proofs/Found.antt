@@ -1,14 +1,16 @@
 -- What queries answer, from what is found step by step.
-use Rattle.std.proofs.Common.{◌≡◌, ℕ, List, [], map, sym, ap, ◌∙◌, subst}
+use Rattle.std.proofs.Common.{◌≡◌, ℕ, List, [], map, sym, take, ap, ◌∙◌, subst}
 use Rattle.std.specs.List.Sorted.{IsPermutation}
 use Rattle.std.specs.Ordering.{nat_cmp}
 use Rattle.map_model.specs.Entries.{IsIncreasing}
 use Rattle.map_model.specs.SetOperations.{difference}
 use Rattle.inverted_index.specs.Documents.{IsIndex, documents_of}
 use Rattle.inverted_index.specs.Merging.{Lists, common, common_of, joined, postings_at}
-use Rattle.inverted_index.specs.Queries.{Document, all_of, any_of, having, without}
+use Rattle.inverted_index.specs.Queries.{AreTop, Document, all_of, any_of, having, hits_of, ranked, without}
 use Rattle.inverted_index.specs.Ranks.{AreLow}
 use Rattle.inverted_index.proofs.Gathering.{Rises, all_of-common, any_of-joined, common_from_first, having-postings, rises_at, without-difference}
+use Rattle.inverted_index.specs.declared.hit.Hit.{Hit}
+use Rattle.inverted_index.proofs.Ranked.{top_ranked}
 use Rattle.inverted_index.proofs.Ranks.{low_fits}
 
 module _ (D : List (ℕ × ℕ)) (P : Lists) (ds : List Document) (index : IsIndex D P) (view : documents_of D P ≡ ds) where
@@ -37,3 +39,10 @@ module _ (D : List (ℕ × ℕ)) (P : Lists) (ds : List Document) (index : IsInd
       let up : Rises (postings_at P t) = rises_at D P index t in
       let Low : List (ℕ × ℕ) → Type 0 = λ m. AreLow m in
       subst Low (sym is) (low_fits (postings_at P t) up.0 up.1)
+
+  pub top_found : (t : List ℕ) (a : List (ℕ × ℕ)) (k : ℕ) (hits : List Hit) → a ≡ postings_at P t → hits ≡ hits_of (take k (ranked a)) → AreTop (having ds t) k hits
+  top_found t a k hits is has =
+      let up : Rises (postings_at P t) = rises_at D P index t in
+      let Up : List (ℕ × ℕ) → Type 0 = λ m. IsIncreasing nat_cmp m in
+      let found = one_found t a is in
+      top_ranked (having ds t) k hits (subst Up (sym is ∙ found) up.0) (has ∙ ap (λ x. hits_of (take k (ranked x))) found)

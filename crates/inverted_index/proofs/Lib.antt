@@ -3,6 +3,7 @@ pub mod Documents
 pub mod OneMore
 pub mod Gathering
 pub mod Ranks
+pub mod Ranked
 pub mod Tallies
 pub mod Texts
 pub mod Found

@@ -38,11 +38,11 @@ all-join F (x ∷ l) r a b = (a.0, all-join F l r a.1 b)
 
 -- ---- ranks
 
-all-ranked_in : (F : ℕ × ℕ → Type 0) (a : ℕ × ℕ) (s : List (ℕ × ℕ)) → F a → AllByRecursion F s → AllByRecursion F (ranked_in a s)
+pub all-ranked_in : (F : ℕ × ℕ → Type 0) (a : ℕ × ℕ) (s : List (ℕ × ℕ)) → F a → AllByRecursion F s → AllByRecursion F (ranked_in a s)
 all-ranked_in F a [] here there = (here, tt)
 all-ranked_in F a (b ∷ s) here there = elim (ranks_before a b) as (λ t. AllByRecursion F (cond t (a ∷ b ∷ s) (b ∷ ranked_in a s))) [ true ↦ (here, (there.0, there.1)) | false ↦ (there.0, all-ranked_in F a s here there.1) ]
 
-all-ranked : (F : ℕ × ℕ → Type 0) (s : List (ℕ × ℕ)) → AllByRecursion F s → AllByRecursion F (ranked s)
+pub all-ranked : (F : ℕ × ℕ → Type 0) (s : List (ℕ × ℕ)) → AllByRecursion F s → AllByRecursion F (ranked s)
 all-ranked F [] a = tt
 all-ranked F (x ∷ s) a = all-ranked_in F x (ranked s) a.0 (all-ranked F s a.1)
 

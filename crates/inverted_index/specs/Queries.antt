@@ -1,7 +1,9 @@
 -- What documents answer. A document is its number and its terms with their weights; an answer is a list of documents' numbers and weights.
-use Rattle.std.specs.Prelude.{ℕ, ◌-◌, ◌^◌, ◌==◌, ◌&&◌, ◌||◌, List, [], ◌∷◌, Option, Some, None, Bool, cond, map, filter, min, nat_lt, nat_le, is_some, unwrap_or, sum_by, take, not}
+use Rattle.std.specs.Prelude.{◌≡◌, ℕ, ◌-◌, ◌^◌, ◌==◌, ◌&&◌, ◌||◌, List, [], ◌∷◌, Option, Some, None, Bool, cond, map, filter, min, nat_lt, nat_le, is_some, unwrap_or, sum_by, take, not}
 use Rattle.std.specs.List.{list_all, list_any}
-use Rattle.std.specs.Ordering.{nat_cmp}
+use Rattle.std.specs.List.Sorted.{IsPermutation, IsStrictlySortedBy}
+use Rattle.std.specs.Ordering.{nat_cmp, ordering_then}
+use Rattle.std.specs.declared.cmp.Ordering.{Ordering}
 use Rattle.map_model.specs.Entries.{lookup}
 use Rattle.inverted_index.specs.Terms.{bytes_cmp}
 use Rattle.inverted_index.specs.declared.hit.Hit.{Hit}
@@ -75,3 +77,18 @@ hit_of a = record { doc = a.0; weight = a.1 }
 
 abbrev pub hits_of : List (ℕ × ℕ) → List Hit
 hits_of = map hit_of
+
+-- more weight comes first, and of the same weight the smaller number
+abbrev pub rank_cmp : ℕ × ℕ → ℕ × ℕ → Ordering
+rank_cmp a b = ordering_then (nat_cmp b.1 a.1) (nat_cmp a.0 b.0)
+
+-- documents with weights, each once, by rank
+pub record IsRanking (m ranking : List (ℕ × ℕ)) : Type 0 where
+  pub same : IsPermutation m ranking
+  pub order : IsStrictlySortedBy rank_cmp ranking
+
+-- hits are the first k of documents with weights, once these stand by rank
+pub record AreTop (m : List (ℕ × ℕ)) (k : ℕ) (hits : List Hit) : Type 0 where
+  pub ranking : List (ℕ × ℕ)
+  pub by_rank : IsRanking m ranking
+  pub first : hits ≡ hits_of (take k ranking)

@@ -4,7 +4,7 @@ ghost use Rattle.std.specs.Ordering.{nat_cmp};
 ghost use Rattle.map_model.specs.Entries.{IsIncreasing};
 ghost use Rattle.map_model.specs.SetOperations.{difference};
 ghost use Rattle.inverted_index.specs.Merging.{postings_at};
-ghost use Rattle.inverted_index.specs.Queries.{all_of, any_of, hits_of, top, without};
+ghost use Rattle.inverted_index.specs.Queries.{AreTop, all_of, any_of, having, hits_of, top, without};
 
 use crate::finding::{by_size, common_of, find_list, find_lists, hits_of, joined};
 use crate::hit::Hit;
@@ -92,7 +92,8 @@ impl Index {
     /// The first `k` documents that have a term, by falling weight, and by rising number where weights are equal. For n
     /// documents that have the term it takes time linear in k * log n.
     pub fn top(&self, alloc: Global, k: u64, term: &Term) -> Result<Vec<Hit>, NoMemory>
-        ensures { IfOk result (λ hits. hits.items ≡ hits_of (top self.now k term.now)) }
+        ensures hits { IfOk result (λ hits. hits.items ≡ hits_of (top self.now k term.now)) }
+        ensures ranks { IfOk result (λ hits. AreTop (having self.now term.now) k hits.items) }
     {
         let list = find_one::<Brand>(alloc, &self.lists, term, Blank::new(1))?;
         top::<Brand>(alloc, list.map(), k, Blank::new(1))
