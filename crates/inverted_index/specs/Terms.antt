@@ -1,5 +1,5 @@
 -- The terms of a text.
-use Rattle.std.specs.Prelude.{◌==◌, ℕ, List, [], ◌∷◌, Bool, false, map, length, filter, count_by, not}
+use Rattle.std.specs.Prelude.{◌≡◌, ◌==◌, ℕ, List, [], ◌∷◌, Bool, true, false, map, length, filter, count_by, not}
 use Rattle.std.specs.List.{list_all, slice_split}
 use Rattle.std.specs.Cmp.Lexicographic.{slice_cmp}
 use Rattle.std.specs.Ordering.{nat_cmp, is_eq}
@@ -15,6 +15,11 @@ is_term (b ∷ bs) = list_all is_ascii_alphanumeric (b ∷ bs)
 -- capital letters become small
 abbrev pub small : List ℕ → List ℕ
 small bytes = map to_ascii_lowercase bytes
+
+-- what a term of the index is: letters and digits, none of them a capital letter
+pub record IsTerm (bytes : List ℕ) : Type 0 where
+  pub lawful : is_term bytes ≡ true
+  pub is_small : small bytes ≡ bytes
 
 -- the order of bytes
 abbrev pub bytes_cmp : List ℕ → List ℕ → Ordering

@@ -10,7 +10,7 @@ ghost use Rattle.std.specs.Cmp.Rules.{comparing};
 ghost use Rattle.std.specs.Ordering.{as_partial_cmp};
 ghost use Rattle.std.proofs.lemmas.Cmp.{nat_list_cmp_total};
 ghost use Rattle.inverted_index.specs.Faults.{FaultOf};
-ghost use Rattle.inverted_index.specs.Terms.{bytes_cmp, is_term, small};
+ghost use Rattle.inverted_index.specs.Terms.{IsTerm, bytes_cmp, is_term, small};
 
 use aug_monoid::{Key, NoMemory, Share, Steps};
 use std::alloc::Global;
@@ -20,7 +20,7 @@ use std::sync::Arc;
 use std::sync::ledger::Ledger;
 use thiserror::Error;
 
-/// A term, seen as its bytes. Its copies share them.
+/// A term, seen as its bytes, which are small ASCII letters and digits, at least one. Its copies share them.
 pub struct Term {
     bytes: Arc<Vec<u8>>,
 }
@@ -39,10 +39,13 @@ pub enum TermFault {
 impl Model for Term {
     ghost use Rattle.std.specs.Prelude.{List, ℕ};
     ghost use Rattle.std.specs.Arc.{arc_value};
+    ghost use Rattle.inverted_index.specs.Terms.{IsTerm};
 
     ghost Value = { List ℕ };
 
     ghost view = { λ t. (arc_value t.bytes).items };
+
+    ghost invariant = { λ t. IsTerm (arc_value t.bytes).items };
 }
 
 impl Drop for Term {
@@ -79,8 +82,9 @@ impl Term {
         }
     }
 
-    /// Bytes with capital letters made small.
+    /// The term of letters and digits, with capital letters made small.
     pub(crate) fn small(alloc: Global, bytes: &[u8]) -> Result<Term, NoMemory>
+        requires { is_term bytes.now ≡ true }
         ensures { IfOk result (λ term. term ≡ small bytes.now) }
     {
         let bytes: Vec<u8> = bytes.iter().map(|b| b.to_ascii_lowercase()).collect(alloc)?;
@@ -89,9 +93,10 @@ impl Term {
         })
     }
 
-    /// Lends the bytes.
+    /// Lends the bytes: small letters and digits, at least one.
     pub fn bytes(&self) -> &[u8]
-        ensures { result.now ≡ self.now }
+        ensures value { result.now ≡ self.now }
+        ensures lawful { IsTerm self.now }
     {
         self.bytes.as_slice()
     }
