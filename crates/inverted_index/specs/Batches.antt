@@ -23,7 +23,7 @@ knowing known doc = cond (is_some (lookup nat_cmp known doc)) known (set nat_cmp
 abbrev pub all_knowing : List (ℕ × ℕ) → List Doc → List (ℕ × ℕ)
 all_knowing known docs = fold (λ k d. knowing k d.doc) known docs
 
--- a document is new where neither known documents nor the batch before it have it
+-- a document is new where it is not known, neither to the index nor from earlier in the batch
 abbrev pub mark_of : List (ℕ × ℕ) → Doc → Marked
 mark_of known d = record { doc = d.doc; text = d.text; is_new = not (is_some (lookup nat_cmp known d.doc)) }
 

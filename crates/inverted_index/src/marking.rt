@@ -10,7 +10,7 @@ use aug_monoid::{NoMemory, Steps};
 use std::alloc::Global;
 use std::sync::ledger::{Blank, Ledger};
 
-/// A document of a batch, and whether it is new: in neither the index nor the batch before it.
+/// A document of a batch, and whether it is new: neither in the index nor earlier in the batch.
 #[derive(Clone, Copy)]
 pub(crate) struct Marked<'a> {
     pub(crate) doc: u64,
