@@ -1,11 +1,12 @@
 //! Components of graphs whose vertices were sorted out by hand, and of long paths. Where memory is refused, a test ends here.
-use fork_join::{Cut, FreeGate};
+use fork_join::{Cut, FreeGate, Gate};
 use graph_comp::{Labelled, components};
 use graph_snap::{Edge, Graph};
 use meeting::Meeting;
 use std::alloc::Global;
 use std::marker::Sync;
 use std::process::Abort;
+use std::sync::atomic::{AtomicU64, Ordering};
 use std::thread::Threads;
 
 /// Two cliques of three, the second of higher numbers, a loop at 9, and an edge that leads to a lower number.
@@ -175,6 +176,42 @@ fn halves_meet<R: Threads + Abort + Sync>(rt: &R, alloc: Global, list: &[Edge]) 
 fn the_halves_of_the_edges_meet(rt: HostRuntime) {
     let list = path(&rt, rt.alloc(), 1000, 1);
     assert!(rt; halves_meet(&rt, rt.alloc(), &list));
+}
+
+/// A gate at which the halves of a first fork wait for one another, and then those of a second one.
+#[derive(Drop)]
+struct TwoForks {
+    entered: AtomicU64,
+    first: Meeting,
+    second: Meeting,
+}
+
+impl Gate for TwoForks {
+    fn enter(&self, place: u64) {
+        if self.entered.fetch_add(1, Ordering::SeqCst) < 2 {
+            self.first.enter(place);
+        } else {
+            self.second.enter(place);
+        }
+    }
+}
+
+/// Whether the halves met of the edges whose ends are gathered, and of those that are made forests.
+fn both_meet<R: Threads + Abort + Sync>(rt: &R, alloc: Global, list: &[Edge]) -> (bool, bool) {
+    let graph = graph_of(rt, alloc, list);
+    let gate = TwoForks {
+        entered: AtomicU64::new(0),
+        first: Meeting::new(),
+        second: Meeting::new(),
+    };
+    let _list = components(rt, alloc, &gate, Cut::new(2, 1), &graph).expect(rt, "memory");
+    (gate.first.was_met(), gate.second.was_met())
+}
+
+#[test]
+fn the_forests_of_the_halves_meet_too(rt: HostRuntime) {
+    let list = path(&rt, rt.alloc(), 1000, 1);
+    assert_eq!(rt; both_meet(&rt, rt.alloc(), &list), (true, true));
 }
 
 /// Asserts which edges are listed of the graph of some.

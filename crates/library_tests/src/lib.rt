@@ -13,3 +13,5 @@ mod graphs;
 mod intervals;
 #[cfg(test)]
 mod points;
+#[cfg(test)]
+mod shortest_first;
