@@ -16,4 +16,6 @@ mod sums;
 #[cfg(test)]
 mod unions;
 #[cfg(test)]
+mod walks;
+#[cfg(test)]
 mod work;
