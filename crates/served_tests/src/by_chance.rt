@@ -2,6 +2,7 @@
 ghost use Rattle.std.specs.Prelude.{◌<◌};
 
 use crate::plain::{Chance, Entries, apply_plainly};
+use aug_monoid::Share;
 use fork_join::{Cut, FreeGate};
 use meeting::Meeting;
 use served_map::{Op, Served, change_by};
@@ -133,4 +134,56 @@ fn many_and_few_operations_by_one_worker_leave_what_a_plain_list_has(rt: HostRun
 #[test]
 fn many_and_few_operations_by_four_workers_leave_what_a_plain_list_has(rt: HostRuntime) {
     run_long(&rt, rt.alloc(), Cut::new(4, 1), 20_000, COUNTS);
+}
+
+/// The map after operations, in two batches, where it is given up.
+fn given_up<R: Threads + Abort + Sync>(
+    rt: &R,
+    alloc: Global,
+    served: Served,
+    ops: &[Op],
+) -> Served {
+    let batches = halves(rt, alloc, ops);
+    let new = served.applied(rt, alloc, &FreeGate, Cut::new(2, 1), batches.as_slice());
+    new.expect(rt, "memory")
+}
+
+/// The map after operations, where it is given up. Asserts that a share that was taken before stays as it was.
+fn given_up_beside_a_share<R: Threads + Abort + Sync>(
+    rt: &R,
+    alloc: Global,
+    served: Served,
+    list: &Entries,
+    ops: &[Op],
+) -> Served {
+    let share = served.share(alloc).expect(rt, "memory");
+    let new = given_up(rt, alloc, served, ops);
+    assert_same(rt, alloc, &share, list);
+    new
+}
+
+/// Applies lists of operations on 1000 keys, each to the map that the last one left, which is given up, and to a plain list. Of every
+/// second map there is a share.
+fn run_given_up<R: Threads + Abort + Sync>(rt: &R, alloc: Global, counts: &[u64]) {
+    let mut chance = Chance::new(9, 1000);
+    let mut served = Served::new();
+    let mut list = Vec::new(alloc);
+    for count in counts {
+        let ops = chance.ops_without_wipes(rt, alloc, *count);
+        served = given_up(rt, alloc, served, &ops);
+        apply_plainly(rt, &mut list, &ops);
+        assert_same(rt, alloc, &served, &list);
+        let ops = chance.ops(rt, alloc, *count);
+        served = given_up_beside_a_share(rt, alloc, served, &list, &ops);
+        apply_plainly(rt, &mut list, &ops);
+        assert_same(rt, alloc, &served, &list);
+    }
+}
+
+/// Many operations, few, which are applied one by one, and many again.
+const GIVEN_UP: &[u64] = &[3_000, 40, 40, 500, 40];
+
+#[test]
+fn a_share_stays_as_it_was_where_its_map_is_given_up(rt: HostRuntime) {
+    run_given_up(&rt, rt.alloc(), GIVEN_UP);
 }
