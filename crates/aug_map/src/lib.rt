@@ -11,12 +11,14 @@ mod changes;
 mod cross;
 mod cursor;
 mod entries;
+mod given_up;
 mod joins;
 mod listing;
 mod map;
 mod queries;
 mod seat;
 
+pub use bulk_changes::IntoEntries;
 pub use cross::map_crosses;
 pub use cursor::{Cursor, CursorOver};
 pub use joins::{Exposed, ExposedOver, Parts, PartsOver};

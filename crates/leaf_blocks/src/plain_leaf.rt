@@ -29,6 +29,16 @@ impl<K: Key, V: Share> Model for PlainLeaf<K, V> {
     ghost invariant = { λ l. IsIncreasing K.cmp l.entries.items };
 }
 
+impl<K: Key, V: Share> PlainLeaf<K, V> {
+    /// Its entries, moved out.
+    pub fn into_entries(self) -> Vec<(K, V)>
+        ensures { result.items ≡ self }
+    {
+        let PlainLeaf { entries } = self;
+        entries
+    }
+}
+
 impl<K: Key, V: Share> Leaf<K, V> for PlainLeaf<K, V> {
     const FIND: u64 = 9;
 
