@@ -55,7 +55,7 @@ fn operations<O: Operation>(alloc: Global, row: &ByteRecord) -> Result<Items<O>,
     requires { 2 ≤ length (fields_of row.now) }
     ensures { GivesCode result (served.operations_of O.operation_of O.numbers_in (drop 2 (fields_of row.now))) }
 {
-    let mut ops = Vec::new(alloc);
+    let mut ops = Vec::with_capacity(alloc, (row.len() - 2) / 2)?; // an operation has a word and a number at least
     let mut place = 2;
     while place < row.len() {
         let op = O::operation_at(row, place)?;
