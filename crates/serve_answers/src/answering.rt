@@ -8,7 +8,7 @@ ghost use Rattle.serve_answers.specs.Answering.{answer_of, last_of, range_totals
 ghost use Rattle.script.specs.Lines.{reply_of};
 
 use crate::served::ServedMap;
-use aug_map::CodedMap;
+use aug_map::PlainMap;
 use aug_monoid::{NoMemory, Steps, SumMax, Totals};
 use script::{line, reply};
 use serve_script::ServeQuery;
@@ -17,11 +17,11 @@ use std::alloc::Global;
 use std::marker::Brand;
 use std::sync::ledger::{Blank, Ledger};
 
-type CodedTotals = CodedMap<SumMax<u64>>;
+type PlainTotals = PlainMap<SumMax<u64>>;
 
 fn get<C: Ledger>(
     alloc: Global,
-    map: &CodedTotals,
+    map: &PlainTotals,
     k: u64,
     steps: &mut Steps<C>,
     out: &mut Vec<u8>,
@@ -38,7 +38,7 @@ fn get<C: Ledger>(
 #[tactic(auto, unfolding(crate::specs::Answering::range_totals))]
 fn totals_within<C: Ledger>(
     alloc: Global,
-    map: &CodedTotals,
+    map: &PlainTotals,
     lo: u64,
     hi: u64,
     steps: &mut Steps<C>,
@@ -50,7 +50,7 @@ fn totals_within<C: Ledger>(
 
 // The totals of all entries.
 #[tactic(auto, unfolding(crate::specs::Answering::totals_of))]
-fn totals(map: &CodedTotals) -> Totals
+fn totals(map: &PlainTotals) -> Totals
     ensures { result ≡ totals_of map.now.entries }
 {
     match map.aug() {
@@ -64,7 +64,7 @@ fn totals(map: &CodedTotals) -> Totals
 
 fn sum<C: Ledger>(
     alloc: Global,
-    map: &CodedTotals,
+    map: &PlainTotals,
     lo: u64,
     hi: u64,
     steps: &mut Steps<C>,
@@ -79,7 +79,7 @@ fn sum<C: Ledger>(
 /// Appends what the map answers.
 fn answer<C: Ledger>(
     alloc: Global,
-    map: &CodedTotals,
+    map: &PlainTotals,
     query: &ServeQuery,
     out: &mut Vec<u8>,
     blank: Blank,

@@ -2,7 +2,7 @@
 ghost use Rattle.std.specs.Prelude.{◌≡◌, []};
 ghost use Rattle.op_runs.specs.Steps.{step};
 
-use aug_map::CodedMap;
+use aug_map::PlainMap;
 use aug_monoid::{NoMemory, Share, SumMax};
 use fork_join::Cut;
 use served_map::{Op, Served};
@@ -43,7 +43,7 @@ impl ServedMap {
     }
 
     /// Lends the map.
-    pub fn map(&self) -> &CodedMap<SumMax<u64>>
+    pub fn map(&self) -> &PlainMap<SumMax<u64>>
         ensures { result.now.entries ≡ self.now }
     {
         self.served.map()

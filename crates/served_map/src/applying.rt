@@ -2,13 +2,13 @@
 ghost use Rattle.std.specs.Prelude.{◌≡◌, IfOk, fold};
 ghost use Rattle.op_runs.specs.Steps.{step, wiped};
 
-use aug_map::CodedMap;
+use aug_map::PlainMap;
 use aug_monoid::{NoMemory, SatSum, Share, Steps, SumMax};
 use op_runs::Op;
 use std::alloc::Global;
 use std::sync::ledger::Ledger;
 
-pub(crate) type ServedMap = CodedMap<SumMax<u64>>;
+pub(crate) type ServedMap = PlainMap<SumMax<u64>>;
 
 /// The entries below `lo` and those above `hi`, in time linear in the height.
 pub(crate) fn without_range<C: Ledger>(

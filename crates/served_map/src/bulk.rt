@@ -11,6 +11,7 @@ use fork_join::{Cut, Gate};
 use op_runs::{Op, outcomes_of, split_at_wipe};
 use std::alloc::Global;
 use std::marker::{Brand, Sync};
+use std::mem;
 use std::sync::ledger::{Blank, Ledger};
 use std::thread::Threads;
 use versions::Batch;
@@ -24,11 +25,11 @@ fn at_once<R: Threads + Sync, G: Gate>(
     alloc: Global,
     gate: &G,
     cut: Cut,
-    map: &ServedMap,
+    map: ServedMap,
     ops: &[Op],
 ) -> Result<ServedMap, NoMemory>
     requires singles { All IsSingle ops.now }
-    ensures { IfOk result (λ changed. changed.entries ≡ fold step map.now.entries ops.now) }
+    ensures { IfOk result (λ changed. changed.entries ≡ fold step map.entries ops.now) }
 {
     let _rises = map.size(); // for the proof alone: keys rise
     let outcomes = outcomes_of(rt, alloc, ops)?;
@@ -51,8 +52,8 @@ fn apply_run<R: Threads + Sync, G: Gate, C: Ledger>(
     if ops.len() <= FEW_OPS {
         return apply_all(alloc, map, ops, steps);
     }
-    let changed = at_once(rt, alloc, gate, cut, map, ops)?;
-    *map = changed;
+    let whole = mem::replace(map, ServedMap::empty());
+    *map = at_once(rt, alloc, gate, cut, whole, ops)?;
     Ok(())
 }
 

@@ -11,7 +11,7 @@ use crate::applying::ServedMap;
 use crate::changing::with_few;
 use crate::joining::{join_around, sides_of};
 use crate::merging::made_anew;
-use aug_monoid::{NoMemory, Share};
+use aug_monoid::NoMemory;
 use fork_join::{Cut, Divide, Gate, Opened, divide};
 use op_runs::Outcome;
 use std::alloc::Global;
@@ -26,7 +26,7 @@ const FEW_KEYS: u64 = 64;
 
 /// A part with more entries than so many for each key has many entries: to make them anew takes longer than a change in place of
 /// each key.
-const MANY_FOR_EACH: u64 = 64;
+const MANY_FOR_EACH: u64 = 16;
 
 /// Whether there are many entries for each key.
 fn has_many(entries: u64, keys: u64) -> bool {
@@ -149,12 +149,11 @@ pub(crate) fn with_outcomes<R: Threads + Sync, G: Gate>(
     alloc: Global,
     gate: &G,
     cut: Cut,
-    map: &ServedMap,
+    map: ServedMap,
     outcomes: &[(u64, Outcome)],
 ) -> Result<ServedMap, NoMemory>
     requires { IsIncreasing nat_cmp outcomes.now }
-    ensures { IfOk result (λ changed. IsChangedBy outcomes.now map.now.entries changed.entries) }
+    ensures { IfOk result (λ changed. IsChangedBy outcomes.now map.entries changed.entries) }
 {
-    let whole = map.share(alloc)?;
-    divide(rt, alloc, gate, cut, &Changing, (whole, outcomes))
+    divide(rt, alloc, gate, cut, &Changing, (map, outcomes))
 }

@@ -4,7 +4,7 @@ ghost use Rattle.op_runs.specs.Steps.{step};
 ghost use Rattle.versions.specs.History.{after};
 
 use crate::bulk::applied;
-use aug_map::CodedMap;
+use aug_map::PlainMap;
 use aug_monoid::{NoMemory, Share, SumMax};
 use fork_join::{Cut, FreeGate, Gate};
 use op_runs::Op;
@@ -15,7 +15,7 @@ use versions::{Batch, State};
 
 /// A persistent map from numbers to numbers, with the sum of its values, seen as its entries in the order of their keys.
 pub struct Served {
-    map: CodedMap<SumMax<u64>>,
+    map: PlainMap<SumMax<u64>>,
 }
 
 impl Model for Served {
@@ -39,12 +39,12 @@ impl Served {
         ensures { result ≡ [] }
     {
         Served {
-            map: CodedMap::empty(),
+            map: PlainMap::empty(),
         }
     }
 
     /// Lends the map.
-    pub fn map(&self) -> &CodedMap<SumMax<u64>>
+    pub fn map(&self) -> &PlainMap<SumMax<u64>>
         ensures { result.now.entries ≡ self.now }
     {
         &self.map
