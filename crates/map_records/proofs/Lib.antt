@@ -1,1 +1,2 @@
 pub mod MapFacts
+pub mod RegisterLow

@@ -25,9 +25,9 @@ three_registers_how_lows r = where_it_fits ThreeOf₄ (length r == 5) _ (
     then_low ThreeOf₄ r 1 _ (λ a low. then_low ThreeOf₄ r 2 _ (λ b second. then_low ThreeOf₄ r 3 _ (λ c third. then_any ThreeOf₄ (how_in r 4) _ (λ d. (low, second, third))))))
 
 -- a row for each verb
-part_lawful : (place : ℕ) (r : Fields) → Lawful (part_command place r)
+part_lawful : (r : Fields) → Lawful (part_command r)
 unfolding part_command
-part_lawful place r =
+part_lawful r =
     either_way Lawful (has_verb r (codes "below")) _ _ (made₃ HasRegisters TwoOf₃ _ _ (two_registers_number_lows r) (λ f low. low))
     (either_way Lawful (has_verb r (codes "above")) _ _ (made₃ HasRegisters TwoOf₃ _ _ (two_registers_number_lows r) (λ f low. low))
     (either_way Lawful (has_verb r (codes "slice")) _ _ (made₄ HasRegisters TwoOf₄ _ _ (two_registers_number_number_lows r) (λ f low. low))
@@ -35,28 +35,28 @@ part_lawful place r =
     (either_way Lawful (has_verb r (codes "filter")) _ _ (made₄ HasRegisters TwoOf₄ _ _ (two_registers_number_number_lows r) (λ f low. low))
     tt))))
 
-joint_lawful : (place : ℕ) (r : Fields) → Lawful (joint_command place r)
+joint_lawful : (r : Fields) → Lawful (joint_command r)
 unfolding joint_command
-joint_lawful place r =
+joint_lawful r =
     either_way Lawful (has_verb r (codes "copy")) _ _ (made₂ HasRegisters TwoOf₂ _ _ (two_registers_lows r) (λ f low. low))
     (either_way Lawful (has_verb r (codes "union")) _ _ (made₄ HasRegisters ThreeOf₄ _ _ (three_registers_how_lows r) (λ f low. low))
     (either_way Lawful (has_verb r (codes "inter")) _ _ (made₄ HasRegisters ThreeOf₄ _ _ (three_registers_how_lows r) (λ f low. low))
     (either_way Lawful (has_verb r (codes "diff")) _ _ (made₃ HasRegisters ThreeOf₃ _ _ (three_registers_lows r) (λ f low. low))
     (either_way Lawful (has_verb r (codes "cat")) _ _ (made₃ HasRegisters ThreeOf₃ _ _ (three_registers_lows r) (λ f low. low))
-    (part_lawful place r)))))
+    (part_lawful r)))))
 
-range_lawful : (place : ℕ) (r : Fields) → Lawful (range_command place r)
+range_lawful : (r : Fields) → Lawful (range_command r)
 unfolding range_command
-range_lawful place r =
+range_lawful r =
     either_way Lawful (has_verb r (codes "sum")) _ _ (made₃ HasRegisters OneOf₃ _ _ (register_number_number_lows r) (λ f low. low))
     (either_way Lawful (has_verb r (codes "max")) _ _ (made₃ HasRegisters OneOf₃ _ _ (register_number_number_lows r) (λ f low. low))
     (either_way Lawful (has_verb r (codes "list")) _ _ (made₃ HasRegisters OneOf₃ _ _ (register_number_number_lows r) (λ f low. low))
     (either_way Lawful (has_verb r (codes "count")) _ _ (made₃ HasRegisters OneOf₃ _ _ (register_number_number_lows r) (λ f low. low))
-    (joint_lawful place r))))
+    (joint_lawful r))))
 
-entry_lawful : (place : ℕ) (r : Fields) → Lawful (entry_command place r)
+entry_lawful : (r : Fields) → Lawful (entry_command r)
 unfolding entry_command
-entry_lawful place r =
+entry_lawful r =
     either_way Lawful (has_verb r (codes "get")) _ _ (made₂ HasRegisters (OneOf₂ ℕ) _ _ (register_number_lows r) (λ f low. low))
     (either_way Lawful (has_verb r (codes "size")) _ _ (made₁ HasRegisters IsLow _ _ (register_lows r) (λ f low. low))
     (either_way Lawful (has_verb r (codes "fold")) _ _ (made₁ HasRegisters IsLow _ _ (register_lows r) (λ f low. low))
@@ -64,19 +64,19 @@ entry_lawful place r =
     (either_way Lawful (has_verb r (codes "select")) _ _ (made₂ HasRegisters (OneOf₂ ℕ) _ _ (register_number_lows r) (λ f low. low))
     (either_way Lawful (has_verb r (codes "next")) _ _ (made₂ HasRegisters (OneOf₂ ℕ) _ _ (register_number_lows r) (λ f low. low))
     (either_way Lawful (has_verb r (codes "prev")) _ _ (made₂ HasRegisters (OneOf₂ ℕ) _ _ (register_number_lows r) (λ f low. low))
-    (range_lawful place r)))))))
+    (range_lawful r)))))))
 
-lawful : (place : ℕ) (r : Fields) → Lawful (map_command place r)
+lawful : (r : Fields) → Lawful (map_command r)
 unfolding map_command
-lawful place r =
+lawful r =
     either_way Lawful (has_verb r (codes "put")) _ _ (made₃ HasRegisters OneOf₃ _ _ (register_number_number_lows r) (λ f low. low))
     (either_way Lawful (has_verb r (codes "del")) _ _ (made₂ HasRegisters (OneOf₂ ℕ) _ _ (register_number_lows r) (λ f low. low))
     (either_way Lawful (has_verb r (codes "clear")) _ _ (made₁ HasRegisters IsLow _ _ (register_lows r) (λ f low. low))
     (either_way Lawful (has_verb r (codes "build")) _ _ (made₂ HasRegisters (OneOf₂ (List Pair64)) _ _ (register_pairs_lows r) (λ f low. low))
     (either_way Lawful (has_verb r (codes "mput")) _ _ (made₂ HasRegisters (OneOf₂ (List Pair64)) _ _ (register_some_pairs_lows r) (λ f low. low))
     (either_way Lawful (has_verb r (codes "mdel")) _ _ (made₂ HasRegisters (OneOf₂ (List ℕ)) _ _ (register_numbers_lows r) (λ f low. low))
-    (entry_lawful place r))))))
+    (entry_lawful r))))))
 
 -- what the records say names registers from 0 to 15
-pub all_lawful : (place : ℕ) (rs : List Fields) → IfOk (commands_from map_command place rs) (AllByRecursion HasRegisters)
-all_lawful = all_keep HasRegisters map_command lawful
+pub all_lawful : (place : ℕ) (rs : List Fields) → IfOk (commands_from (λ _. map_command) place rs) (AllByRecursion HasRegisters)
+all_lawful = all_keep HasRegisters (λ _. map_command) (λ _. lawful)

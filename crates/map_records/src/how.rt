@@ -3,9 +3,10 @@ ghost use Rattle.std.specs.Prelude.{◌≡◌};
 ghost use Rattle.csv.specs.Records.{fields_of};
 ghost use Rattle.map_records.specs.How.{how_in, how_named, three_registers_how};
 
+use crate::shapes::register_at;
 use csv::ByteRecord;
 use script::Code;
-use script::fields::{field_at, register_at};
+use script::fields::field_at;
 
 /// How the value of `a` and the value of `b` meet at a key that both have.
 #[derive(Clone, Copy, Debug, PartialEq, Eq)]
@@ -45,7 +46,7 @@ fn how_at(row: &ByteRecord, place: usize) -> Result<How, Code>
 }
 
 /// The fields of a verb, three registers and how two values meet.
-pub(crate) fn three_registers_how(row: &ByteRecord) -> Result<(u64, u64, u64, How), Code>
+pub(crate) fn three_registers_how(row: &ByteRecord) -> Result<(u8, u8, u8, How), Code>
     ensures { result ≡ three_registers_how (fields_of row.now) }
 {
     if row.len() != 5 {

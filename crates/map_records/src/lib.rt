@@ -3,6 +3,7 @@
 
 mod commands;
 mod how;
+mod shapes;
 
 pub use commands::MapCommand;
 pub use how::How;

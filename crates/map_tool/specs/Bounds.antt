@@ -20,9 +20,9 @@ fold_steps height = 8 * height + 16 * 32
 
 -- the most steps of a command
 abbrev pub most_steps : List (Contents ℕ ℕ) → MapCommand → Option ℕ
-most_steps kept (command.Put place d k v) = Some (change_steps (height_of kept d))
-most_steps kept (command.Del place d k) = Some (change_steps (height_of kept d))
-most_steps kept (command.Get place m k) = Some (get_steps (height_of kept m))
-most_steps kept (command.Sum place m lo hi) = Some (fold_steps (height_of kept m))
-most_steps kept (command.Fold place m) = Some 0
+most_steps kept (command.Put d k v) = Some (change_steps (height_of kept d))
+most_steps kept (command.Del d k) = Some (change_steps (height_of kept d))
+most_steps kept (command.Get m k) = Some (get_steps (height_of kept m))
+most_steps kept (command.Sum m lo hi) = Some (fold_steps (height_of kept m))
+most_steps kept (command.Fold m) = Some 0
 most_steps kept c = None

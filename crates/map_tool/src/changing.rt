@@ -19,8 +19,8 @@ use std::thread::Threads;
 pub(crate) fn copy(
     alloc: Global,
     registers: &mut Registers,
-    d: u64,
-    m: u64,
+    d: u8,
+    m: u8,
     text: &mut Vec<u8>,
 ) -> Result<(), NoMemory>
     requires { (d < 16) × (m < 16) }
@@ -31,7 +31,7 @@ pub(crate) fn copy(
 }
 
 /// Makes a register empty.
-pub(crate) fn clear(registers: &mut Registers, d: u64, text: &mut Vec<u8>) -> Result<(), NoMemory>
+pub(crate) fn clear(registers: &mut Registers, d: u8, text: &mut Vec<u8>) -> Result<(), NoMemory>
     requires { d < 16 }
     ensures { HasEffect (changes d []) result registers.old registers.new text.old.items text.new.items }
 {
@@ -42,8 +42,8 @@ pub(crate) fn clear(registers: &mut Registers, d: u64, text: &mut Vec<u8>) -> Re
 pub(crate) fn below(
     alloc: Global,
     registers: &mut Registers,
-    d: u64,
-    m: u64,
+    d: u8,
+    m: u8,
     k: u64,
     text: &mut Vec<u8>,
 ) -> Result<(), NoMemory>
@@ -58,8 +58,8 @@ pub(crate) fn below(
 pub(crate) fn above(
     alloc: Global,
     registers: &mut Registers,
-    d: u64,
-    m: u64,
+    d: u8,
+    m: u8,
     k: u64,
     text: &mut Vec<u8>,
 ) -> Result<(), NoMemory>
@@ -74,8 +74,8 @@ pub(crate) fn above(
 pub(crate) fn slice(
     alloc: Global,
     registers: &mut Registers,
-    d: u64,
-    m: u64,
+    d: u8,
+    m: u8,
     lo: u64,
     hi: u64,
     text: &mut Vec<u8>,
@@ -98,8 +98,8 @@ fn values_from(alloc: Global, map: &Register, least: u64) -> Result<Register, No
 pub(crate) fn at_least(
     alloc: Global,
     registers: &mut Registers,
-    d: u64,
-    m: u64,
+    d: u8,
+    m: u8,
     t: u64,
     text: &mut Vec<u8>,
 ) -> Result<(), NoMemory>
@@ -132,8 +132,8 @@ pub(crate) fn filter<R: Threads + Sync, G: Gate>(
     gate: &G,
     cut: Cut,
     registers: &mut Registers,
-    d: u64,
-    m: u64,
+    d: u8,
+    m: u8,
     lo: u64,
     hi: u64,
     text: &mut Vec<u8>,

@@ -26,7 +26,7 @@ pub(crate) fn build<R: Threads + Sync, G: Gate>(
     gate: &G,
     cut: Cut,
     registers: &mut Registers,
-    d: u64,
+    d: u8,
     pairs: &[Pair64],
     text: &mut Vec<u8>,
 ) -> Result<(), NoMemory>
@@ -45,7 +45,7 @@ pub(crate) fn put_all<R: Threads + Sync, G: Gate>(
     gate: &G,
     cut: Cut,
     registers: &mut Registers,
-    d: u64,
+    d: u8,
     pairs: &[Pair64],
     text: &mut Vec<u8>,
 ) -> Result<(), NoMemory>
@@ -64,7 +64,7 @@ pub(crate) fn del_all<R: Threads + Sync, G: Gate>(
     gate: &G,
     cut: Cut,
     registers: &mut Registers,
-    d: u64,
+    d: u8,
     keys: &[u64],
     text: &mut Vec<u8>,
 ) -> Result<(), NoMemory>
@@ -82,9 +82,9 @@ pub(crate) fn union<R: Threads + Sync, G: Gate>(
     gate: &G,
     cut: Cut,
     registers: &mut Registers,
-    d: u64,
-    a: u64,
-    b: u64,
+    d: u8,
+    a: u8,
+    b: u8,
     how: How,
     text: &mut Vec<u8>,
 ) -> Result<(), NoMemory>
@@ -103,9 +103,9 @@ pub(crate) fn intersect<R: Threads + Sync, G: Gate>(
     gate: &G,
     cut: Cut,
     registers: &mut Registers,
-    d: u64,
-    a: u64,
-    b: u64,
+    d: u8,
+    a: u8,
+    b: u8,
     how: How,
     text: &mut Vec<u8>,
 ) -> Result<(), NoMemory>
@@ -124,9 +124,9 @@ pub(crate) fn difference<R: Threads + Sync, G: Gate>(
     gate: &G,
     cut: Cut,
     registers: &mut Registers,
-    d: u64,
-    a: u64,
-    b: u64,
+    d: u8,
+    a: u8,
+    b: u8,
     text: &mut Vec<u8>,
 ) -> Result<(), NoMemory>
     requires { (d < 16) × (a < 16) × (b < 16) }
@@ -174,9 +174,9 @@ fn joined<C: Ledger>(
 pub(crate) fn cat<C: Ledger>(
     alloc: Global,
     registers: &mut Registers,
-    d: u64,
-    a: u64,
-    b: u64,
+    d: u8,
+    a: u8,
+    b: u8,
     steps: &mut Steps<C>,
     text: &mut Vec<u8>,
 ) -> Result<(), NoMemory>

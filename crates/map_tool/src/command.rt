@@ -39,47 +39,47 @@ pub fn map_command<R: Threads + Sync, G: Gate, C: Ledger>(
     ensures cost { IfSome (most_steps registers.old command.now) (λ most. steps.new ≤ steps.old + most) }
 {
     match command {
-        MapCommand::Put { d, k, v, .. } => registers.put(alloc, *d, *k, *v, steps, text),
-        MapCommand::Del { d, k, .. } => registers.del(alloc, *d, *k, steps, text),
-        MapCommand::Get { m, k, .. } => get(alloc, registers.map(*m), *k, steps, text),
-        MapCommand::Size { m, .. } => size(registers.map(*m), text),
-        MapCommand::Sum { m, lo, hi, .. } => sum(alloc, registers.map(*m), *lo, *hi, steps, text),
-        MapCommand::Fold { m, .. } => fold(registers.map(*m), text),
-        MapCommand::Max { m, lo, hi, .. } => greatest(alloc, registers.map(*m), *lo, *hi, text),
-        MapCommand::Rank { m, k, .. } => rank(registers.map(*m), *k, steps, text),
-        MapCommand::Select { m, i, .. } => select(alloc, registers.map(*m), *i, text),
-        MapCommand::Next { m, k, .. } => next(alloc, registers.map(*m), *k, steps, text),
-        MapCommand::Prev { m, k, .. } => prev(alloc, registers.map(*m), *k, steps, text),
-        MapCommand::List { m, lo, hi, .. } => list(alloc, registers.map(*m), *lo, *hi, text),
-        MapCommand::Count { m, lo, hi, .. } => {
+        MapCommand::Put { d, k, v } => registers.put(alloc, *d, *k, *v, steps, text),
+        MapCommand::Del { d, k } => registers.del(alloc, *d, *k, steps, text),
+        MapCommand::Get { m, k } => get(alloc, registers.map(*m), *k, steps, text),
+        MapCommand::Size { m } => size(registers.map(*m), text),
+        MapCommand::Sum { m, lo, hi } => sum(alloc, registers.map(*m), *lo, *hi, steps, text),
+        MapCommand::Fold { m } => fold(registers.map(*m), text),
+        MapCommand::Max { m, lo, hi } => greatest(alloc, registers.map(*m), *lo, *hi, text),
+        MapCommand::Rank { m, k } => rank(registers.map(*m), *k, steps, text),
+        MapCommand::Select { m, i } => select(alloc, registers.map(*m), *i, text),
+        MapCommand::Next { m, k } => next(alloc, registers.map(*m), *k, steps, text),
+        MapCommand::Prev { m, k } => prev(alloc, registers.map(*m), *k, steps, text),
+        MapCommand::List { m, lo, hi } => list(alloc, registers.map(*m), *lo, *hi, text),
+        MapCommand::Count { m, lo, hi } => {
             count(rt, alloc, gate, cut, registers.map(*m), *lo, *hi, text)
         }
-        MapCommand::Copy { d, m, .. } => copy(alloc, registers, *d, *m, text),
-        MapCommand::Clear { d, .. } => clear(registers, *d, text),
-        MapCommand::Build { d, pairs, .. } => {
+        MapCommand::Copy { d, m } => copy(alloc, registers, *d, *m, text),
+        MapCommand::Clear { d } => clear(registers, *d, text),
+        MapCommand::Build { d, pairs } => {
             build(rt, alloc, gate, cut, registers, *d, pairs.items(), text)
         }
-        MapCommand::Mput { d, pairs, .. } => {
+        MapCommand::Mput { d, pairs } => {
             put_all(rt, alloc, gate, cut, registers, *d, pairs.items(), text)
         }
-        MapCommand::Mdel { d, keys, .. } => {
+        MapCommand::Mdel { d, keys } => {
             del_all(rt, alloc, gate, cut, registers, *d, keys.items(), text)
         }
-        MapCommand::Union { d, a, b, how, .. } => {
+        MapCommand::Union { d, a, b, how } => {
             union(rt, alloc, gate, cut, registers, *d, *a, *b, *how, text)
         }
-        MapCommand::Inter { d, a, b, how, .. } => {
+        MapCommand::Inter { d, a, b, how } => {
             intersect(rt, alloc, gate, cut, registers, *d, *a, *b, *how, text)
         }
-        MapCommand::Diff { d, a, b, .. } => {
+        MapCommand::Diff { d, a, b } => {
             difference(rt, alloc, gate, cut, registers, *d, *a, *b, text)
         }
-        MapCommand::Cat { d, a, b, .. } => cat(alloc, registers, *d, *a, *b, steps, text),
-        MapCommand::Below { d, m, k, .. } => below(alloc, registers, *d, *m, *k, text),
-        MapCommand::Above { d, m, k, .. } => above(alloc, registers, *d, *m, *k, text),
-        MapCommand::Slice { d, m, lo, hi, .. } => slice(alloc, registers, *d, *m, *lo, *hi, text),
-        MapCommand::Atleast { d, m, t, .. } => at_least(alloc, registers, *d, *m, *t, text),
-        MapCommand::Filter { d, m, lo, hi, .. } => {
+        MapCommand::Cat { d, a, b } => cat(alloc, registers, *d, *a, *b, steps, text),
+        MapCommand::Below { d, m, k } => below(alloc, registers, *d, *m, *k, text),
+        MapCommand::Above { d, m, k } => above(alloc, registers, *d, *m, *k, text),
+        MapCommand::Slice { d, m, lo, hi } => slice(alloc, registers, *d, *m, *lo, *hi, text),
+        MapCommand::Atleast { d, m, t } => at_least(alloc, registers, *d, *m, *t, text),
+        MapCommand::Filter { d, m, lo, hi } => {
             filter(rt, alloc, gate, cut, registers, *d, *m, *lo, *hi, text)
         }
     }

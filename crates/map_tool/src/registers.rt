@@ -53,7 +53,7 @@ impl Registers {
     }
 
     /// The map of a register.
-    pub(crate) fn map(&self, number: u64) -> &Register
+    pub(crate) fn map(&self, number: u8) -> &Register
         requires { number < 16 }
         ensures entries { result.now.entries ≡ register (maps_of self.now) number }
         ensures height { result.now.height ≡ height_of self.now number }
@@ -65,7 +65,7 @@ impl Registers {
     #[tactic(auto, using(crate::proofs::Kept::stored_is))]
     pub(crate) fn store(
         &mut self,
-        number: u64,
+        number: u8,
         map: Register,
         text: &mut Vec<u8>,
     ) -> Result<(), NoMemory>

@@ -69,7 +69,7 @@ impl Registers {
     pub(crate) fn put<C: Ledger>(
         &mut self,
         alloc: Global,
-        number: u64,
+        number: u8,
         k: u64,
         v: u64,
         steps: &mut Steps<C>,
@@ -88,7 +88,7 @@ impl Registers {
     pub(crate) fn del<C: Ledger>(
         &mut self,
         alloc: Global,
-        number: u64,
+        number: u8,
         k: u64,
         steps: &mut Steps<C>,
         text: &mut Vec<u8>,

@@ -22,19 +22,19 @@ pair key val = record { first = key; second = val }
 
 -- unions, an intersection, differences, and maps that overlap
 set_operations : text_of (
-    command.Build 1 0 (pair 1 10 ∷ pair 3 30 ∷ pair 5 50 ∷ []) ∷
-    command.Build 2 1 (pair 3 4 ∷ pair 4 40 ∷ []) ∷
-    command.Union 3 2 0 1 how.Sum ∷
-    command.Fold 4 2 ∷
-    command.Union 5 3 0 1 how.First ∷
-    command.Get 6 3 3 ∷
-    command.Inter 7 3 0 1 how.Second ∷
-    command.Get 8 3 3 ∷
-    command.Diff 9 4 0 1 ∷
-    command.List 10 4 0 9 ∷
-    command.Cat 11 5 4 1 ∷
-    command.Size 12 5 ∷
-    command.Diff 13 5 0 0 ∷
+    command.Build 0 (pair 1 10 ∷ pair 3 30 ∷ pair 5 50 ∷ []) ∷
+    command.Build 1 (pair 3 4 ∷ pair 4 40 ∷ []) ∷
+    command.Union 2 0 1 how.Sum ∷
+    command.Fold 2 ∷
+    command.Union 3 0 1 how.First ∷
+    command.Get 3 3 ∷
+    command.Inter 3 0 1 how.Second ∷
+    command.Get 3 3 ∷
+    command.Diff 4 0 1 ∷
+    command.List 4 0 9 ∷
+    command.Cat 5 4 1 ∷
+    command.Size 5 ∷
+    command.Diff 5 0 0 ∷
     []) ≡ lines (
     (codes "ok", 3 ∷ []) ∷ (codes "ok", 2 ∷ []) ∷ (codes "ok", 4 ∷ []) ∷ (codes "aug", 134 ∷ 50 ∷ []) ∷ (codes "ok", 4 ∷ []) ∷ (codes "some", 30 ∷ []) ∷ (codes "ok", 1 ∷ []) ∷ (codes "some", 4 ∷ []) ∷ (codes "ok", 2 ∷ []) ∷ (codes "list", 2 ∷ 1 ∷ 10 ∷ 5 ∷ 50 ∷ []) ∷ (codes "overlap", []) ∷ (codes "size", 0 ∷ []) ∷ (codes "ok", 0 ∷ []) ∷ [])
 unfolding range_totals totals_of
@@ -42,19 +42,19 @@ set_operations = refl
 
 -- parts by keys and by values, places and neighbours
 parts : text_of (
-    command.Build 1 2 (pair 1 10 ∷ pair 3 34 ∷ pair 4 40 ∷ pair 5 50 ∷ []) ∷
-    command.Below 2 6 2 4 ∷
-    command.Above 3 8 2 4 ∷
-    command.Cat 4 9 6 8 ∷
-    command.Rank 5 2 4 ∷
-    command.Select 6 2 3 ∷
-    command.Select 7 2 4 ∷
-    command.Next 8 2 3 ∷
-    command.Prev 9 2 1 ∷
-    command.Atleast 10 10 2 40 ∷
-    command.Filter 11 11 2 30 40 ∷
-    command.Count 12 2 30 40 ∷
-    command.Max 13 2 2 4 ∷
+    command.Build 2 (pair 1 10 ∷ pair 3 34 ∷ pair 4 40 ∷ pair 5 50 ∷ []) ∷
+    command.Below 6 2 4 ∷
+    command.Above 8 2 4 ∷
+    command.Cat 9 6 8 ∷
+    command.Rank 2 4 ∷
+    command.Select 2 3 ∷
+    command.Select 2 4 ∷
+    command.Next 2 3 ∷
+    command.Prev 2 1 ∷
+    command.Atleast 10 2 40 ∷
+    command.Filter 11 2 30 40 ∷
+    command.Count 2 30 40 ∷
+    command.Max 2 2 4 ∷
     []) ≡ lines (
     (codes "ok", 4 ∷ []) ∷ (codes "ok", 2 ∷ []) ∷ (codes "ok", 1 ∷ []) ∷ (codes "ok", 3 ∷ []) ∷ (codes "rank", 2 ∷ []) ∷ (codes "entry", 5 ∷ 50 ∷ []) ∷ (codes "none", []) ∷ (codes "entry", 4 ∷ 40 ∷ []) ∷ (codes "none", []) ∷ (codes "ok", 2 ∷ []) ∷ (codes "ok", 2 ∷ []) ∷ (codes "count", 2 ∷ []) ∷ (codes "max", 40 ∷ []) ∷ [])
 unfolding range_totals totals_of
@@ -62,15 +62,15 @@ parts = refl
 
 -- batches, a copy that stays, and a slice
 batches : text_of (
-    command.Build 1 0 (pair 1 10 ∷ pair 3 30 ∷ pair 5 50 ∷ []) ∷
-    command.Copy 2 13 0 ∷
-    command.Mput 3 0 (pair 7 70 ∷ pair 7 71 ∷ []) ∷
-    command.Get 4 0 7 ∷
-    command.Mdel 5 0 (1 ∷ 2 ∷ []) ∷
-    command.Slice 6 12 0 4 9 ∷
-    command.Clear 7 0 ∷
-    command.Size 8 13 ∷
-    command.Size 9 12 ∷
+    command.Build 0 (pair 1 10 ∷ pair 3 30 ∷ pair 5 50 ∷ []) ∷
+    command.Copy 13 0 ∷
+    command.Mput 0 (pair 7 70 ∷ pair 7 71 ∷ []) ∷
+    command.Get 0 7 ∷
+    command.Mdel 0 (1 ∷ 2 ∷ []) ∷
+    command.Slice 12 0 4 9 ∷
+    command.Clear 0 ∷
+    command.Size 13 ∷
+    command.Size 12 ∷
     []) ≡ lines (
     (codes "ok", 3 ∷ []) ∷ (codes "ok", 3 ∷ []) ∷ (codes "ok", 4 ∷ []) ∷ (codes "some", 71 ∷ []) ∷ (codes "ok", 3 ∷ []) ∷ (codes "ok", 2 ∷ []) ∷ (codes "ok", 0 ∷ []) ∷ (codes "size", 3 ∷ []) ∷ (codes "size", 2 ∷ []) ∷ [])
 unfolding range_totals totals_of
@@ -78,15 +78,15 @@ batches = refl
 
 -- registers apart from one another
 registers : text_of (
-    command.Put 1 0 5 10 ∷
-    command.Put 2 15 6 7 ∷
-    command.Copy 3 1 15 ∷
-    command.Del 4 1 6 ∷
-    command.Fold 5 0 ∷
-    command.List 6 15 0 9 ∷
-    command.Size 7 1 ∷
-    command.Clear 8 0 ∷
-    command.Get 9 0 5 ∷
+    command.Put 0 5 10 ∷
+    command.Put 15 6 7 ∷
+    command.Copy 1 15 ∷
+    command.Del 1 6 ∷
+    command.Fold 0 ∷
+    command.List 15 0 9 ∷
+    command.Size 1 ∷
+    command.Clear 0 ∷
+    command.Get 0 5 ∷
     []) ≡ lines (
     (codes "ok", 1 ∷ []) ∷ (codes "ok", 1 ∷ []) ∷ (codes "ok", 1 ∷ []) ∷ (codes "ok", 0 ∷ []) ∷ (codes "aug", 10 ∷ 10 ∷ []) ∷ (codes "list", 1 ∷ 6 ∷ 7 ∷ []) ∷ (codes "size", 0 ∷ []) ∷ (codes "ok", 0 ∷ []) ∷ (codes "none", []) ∷ [])
 unfolding range_totals totals_of
@@ -94,12 +94,12 @@ registers = refl
 
 -- a map behind another one
 ends : text_of (
-    command.Put 1 0 1 10 ∷
-    command.Put 2 1 2 20 ∷
-    command.Cat 3 2 0 1 ∷
-    command.Cat 4 3 1 0 ∷
-    command.Cat 5 4 0 9 ∷
-    command.Size 6 2 ∷
+    command.Put 0 1 10 ∷
+    command.Put 1 2 20 ∷
+    command.Cat 2 0 1 ∷
+    command.Cat 3 1 0 ∷
+    command.Cat 4 0 9 ∷
+    command.Size 2 ∷
     []) ≡ lines (
     (codes "ok", 1 ∷ []) ∷ (codes "ok", 1 ∷ []) ∷ (codes "ok", 2 ∷ []) ∷ (codes "overlap", []) ∷ (codes "ok", 1 ∷ []) ∷ (codes "size", 2 ∷ []) ∷ [])
 unfolding range_totals totals_of

@@ -26,14 +26,14 @@ sample_pairs size x = map (pair_at size x) (range_with_len 0 size)
 -- two maps of these pairs, their union, intersection and difference, and the folds of these
 abbrev pub commands_over : List Pair64 → List Pair64 → List MapCommand
 commands_over ps qs =
-    command.Build 1 0 ps ∷
-    command.Build 2 1 qs ∷
-    command.Union 3 2 0 1 how.Sum ∷
-    command.Inter 4 3 0 1 how.Max ∷
-    command.Diff 5 4 0 1 ∷
-    command.Fold 6 2 ∷
-    command.Fold 7 3 ∷
-    command.Fold 8 4 ∷
+    command.Build 0 ps ∷
+    command.Build 1 qs ∷
+    command.Union 2 0 1 how.Sum ∷
+    command.Inter 3 0 1 how.Max ∷
+    command.Diff 4 0 1 ∷
+    command.Fold 2 ∷
+    command.Fold 3 ∷
+    command.Fold 4 ∷
     []
 
 -- the commands for a seed and a size: the first pairs that the generator makes, and the next ones

@@ -67,39 +67,27 @@ fn commands_over(
     ensures { IfOk result (λ list. list.items ≡ commands_over first second) }
 {
     let list = vec![in alloc;
+        MapCommand::Build { d: 0, pairs: first },
         MapCommand::Build {
-            place: 1,
-            d: 0,
-            pairs: first
-        },
-        MapCommand::Build {
-            place: 2,
             d: 1,
             pairs: second
         },
         MapCommand::Union {
-            place: 3,
             d: 2,
             a: 0,
             b: 1,
             how: How::Sum
         },
         MapCommand::Inter {
-            place: 4,
             d: 3,
             a: 0,
             b: 1,
             how: How::Max
         },
-        MapCommand::Diff {
-            place: 5,
-            d: 4,
-            a: 0,
-            b: 1
-        },
-        MapCommand::Fold { place: 6, m: 2 },
-        MapCommand::Fold { place: 7, m: 3 },
-        MapCommand::Fold { place: 8, m: 4 },
+        MapCommand::Diff { d: 4, a: 0, b: 1 },
+        MapCommand::Fold { m: 2 },
+        MapCommand::Fold { m: 3 },
+        MapCommand::Fold { m: 4 },
     ]?;
     Ok(list)
 }

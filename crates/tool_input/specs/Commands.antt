@@ -22,7 +22,7 @@ use Rattle.tool_input.specs.declared.parsed.Tool.TheVariants as tool
 -- what the input of a tool says
 abbrev pub commands_of : Tool → List ℕ → Result Parsed BadRecord
 commands_of tool.Map bytes = do
-  commands ← commands_from map_command 1 (records_of bytes)
+  commands ← commands_from (λ _. map_command) 1 (records_of bytes)
   Ok (parsed.Map commands)
 commands_of tool.Seq bytes = do
   commands ← commands_from seq_command 1 (records_of bytes)
