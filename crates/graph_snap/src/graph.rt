@@ -10,12 +10,13 @@ use crate::edge::{Edge, Reached};
 use crate::listing::edge_list;
 use crate::search::search;
 use crate::search_alone::search_alone;
-use crate::vertices::{Vertices, degree_at, with_sets, without_sets};
+use crate::vertices::{Vertices, degree_at, with_sets, with_sets_into, without_sets};
 use aug_map::PlainMap;
 use aug_monoid::{NoMemory, Share};
 use fork_join::{Cut, Gate};
 use std::alloc::Global;
 use std::marker::{Model, Sync};
+use std::mem;
 use std::thread::Threads;
 
 /// A directed graph, seen as the list of its edges by their first vertex and then by their second. A vertex without edges is
@@ -120,6 +121,28 @@ impl Graph {
         let changed = sets_of(rt, alloc, gate, cut, list)?;
         let batch = Vertices::build(rt, alloc, gate, cut, &changed)?;
         let vertices = with_sets(rt, alloc, gate, cut, &self.vertices, &batch)?;
+        let edges = edges_in(&vertices)?;
+        Ok(Graph { vertices, edges })
+    }
+
+    /// `add_edges` of a graph that is given up: what of its map has one owner is moved, and what has more is copied, so that
+    /// copies of the graph that were taken before stay as they were. The sets that gain edges are made anew. In the time of
+    /// `add_edges`, and a refusal gives the graph up.
+    pub fn add_edges_into<R: Threads + Sync, G: Gate>(
+        self,
+        rt: &R,
+        alloc: Global,
+        gate: &G,
+        cut: Cut,
+        list: &[Edge],
+    ) -> Result<Graph, NoMemory>
+        ensures { IfOk result (λ graph. graph ≡ with_edges self (pairs_of list.now)) }
+    {
+        let changed = sets_of(rt, alloc, gate, cut, list)?;
+        let mut graph = self;
+        graph.edges = 0;
+        let vertices = mem::replace(&mut graph.vertices, PlainMap::empty());
+        let vertices = with_sets_into(rt, alloc, gate, cut, vertices, &changed)?;
         let edges = edges_in(&vertices)?;
         Ok(Graph { vertices, edges })
     }

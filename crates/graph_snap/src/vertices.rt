@@ -71,6 +71,23 @@ pub(crate) fn with_sets<R: Threads + Sync, G: Gate>(
     vertices.union(rt, alloc, gate, cut, batch, &Merge)
 }
 
+/// The map, which is given up, with the edges of a list of sets too.
+pub(crate) fn with_sets_into<R: Threads + Sync, G: Gate>(
+    rt: &R,
+    alloc: Global,
+    gate: &G,
+    cut: Cut,
+    vertices: Vertices,
+    batch: &[(u64, Neighbours)],
+) -> Result<Vertices, NoMemory>
+    requires vertices { AreSets vertices.entries }
+    requires batch { AreSets batch.now }
+    ensures sets { IfOk result (λ map. AreSets map.entries) }
+    ensures edges { IfOk result (λ map. IsUnited vertices.entries batch.now map.entries) }
+{
+    vertices.union_into(rt, alloc, gate, cut, batch, &Merge)
+}
+
 /// The map without the edges of another one. A vertex that has no edge left is no key.
 pub(crate) fn without_sets<R: Threads + Sync, G: Gate>(
     rt: &R,

@@ -15,6 +15,7 @@ use graph_snap::Graph;
 use script::line;
 use std::alloc::Global;
 use std::marker::Sync;
+use std::mem;
 use std::thread::Threads;
 
 // Appends the reply to a search of a graph.
@@ -83,7 +84,8 @@ pub(crate) fn graph_command<R: Threads + Sync, G: Gate>(
     match command {
         GraphCommand::Add { edges, .. } => {
             let list = edges_in(alloc, edges.items())?;
-            graphs.present = graphs.present.add_edges(rt, alloc, gate, cut, &list)?;
+            let present = mem::replace(&mut graphs.present, Graph::new());
+            graphs.present = present.add_edges_into(rt, alloc, gate, cut, &list)?;
             line(text, "ok", &[graphs.present.edges()])
         }
         GraphCommand::Cut { edges, .. } => {
