@@ -47,10 +47,6 @@ impl Augment for OtherSums {
       assoc = λ a b c p q r. Prim.omega arith;
     } };
 
-    ghost keys_never_refuse = { λ _. tt };
-
-    ghost values_never_refuse = { λ _. tt };
-
     ghost augs_never_refuse = { λ _. tt };
 
     fn base(_alloc: Global, _key: &u64, val: &u64) -> Result<u64, NoMemory> {

@@ -41,10 +41,6 @@ impl Augment for Lowest {
       assoc = λ a b c p q r. Prim.omega arith;
     } };
 
-    ghost keys_never_refuse = { λ _. tt };
-
-    ghost values_never_refuse = { λ _. tt };
-
     ghost augs_never_refuse = { λ _. tt };
 
     fn base(_alloc: Global, _day: &u64, price: &u64) -> Result<u64, NoMemory> {

@@ -26,17 +26,13 @@ impl Augment for Degrees {
 
     ghost combined = { λ a b. min (a + b) (2 ^ 64 - 1) };
 
-    ghost never_refuses = { ⊥ };
+    ghost never_refuses = { Unit {0} };
 
     ghost base_fits = { λ _ _. omega arith };
 
     ghost monoid = { record { unit_fits = omega arith; combine_fits = λ a b f g. omega arith; left_unit = λ a f. omega arith; right_unit = λ a f. omega arith; assoc = λ a b c f g h. omega arith } };
 
-    ghost keys_never_refuse = { λ refuses. absurd refuses };
-
-    ghost values_never_refuse = { λ refuses. absurd refuses };
-
-    ghost augs_never_refuse = { λ refuses. absurd refuses };
+    ghost augs_never_refuse = { λ _. tt };
 
     fn base(_alloc: Global, _key: &u64, val: &Neighbours) -> Result<u64, NoMemory> {
         Ok(val.size())
@@ -54,5 +50,9 @@ impl Augment for Degrees {
     ) -> Result<u64, NoMemory> {
         steps.tick();
         Ok(a.saturating_add(*b))
+    }
+
+    fn is_total() -> bool {
+        true
     }
 }

@@ -77,10 +77,6 @@ impl Augment for Places {
 
     ghost monoid = { rows_monoid };
 
-    ghost keys_never_refuse = { λ refuses. absurd refuses };
-
-    ghost values_never_refuse = { λ refuses. absurd refuses };
-
     ghost augs_never_refuse = { λ refuses. absurd refuses };
 
     fn base(alloc: Global, key: &Pair64, val: &u64) -> Result<Rows, NoMemory> {

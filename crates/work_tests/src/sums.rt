@@ -69,10 +69,6 @@ impl<'a> Augment for Sums<'a> {
 
     ghost monoid = { record { unit_fits = omega arith; combine_fits = λ a b f g. omega arith; left_unit = λ a f. omega arith; right_unit = λ a f. omega arith; assoc = λ a b c f g h. omega arith } };
 
-    ghost keys_never_refuse = { λ _. tt };
-
-    ghost values_never_refuse = { λ _. tt };
-
     ghost augs_never_refuse = { λ _. tt };
 
     fn base(_alloc: Global, key: &Counted<'a>, val: &u64) -> Result<Sum<'a>, NoMemory> {

@@ -59,10 +59,6 @@ impl Augment for FirstPosting {
 
     ghost monoid = { first_monoid };
 
-    ghost keys_never_refuse = { λ refuses. absurd refuses };
-
-    ghost values_never_refuse = { λ refuses. absurd refuses };
-
     ghost augs_never_refuse = { λ refuses. absurd refuses };
 
     fn base(alloc: Global, key: &u64, val: &u64) -> Result<Posting, NoMemory> {

@@ -37,10 +37,6 @@ impl Augment for NotNine {
 
     ghost monoid = { record { unit_fits = omega arith; combine_fits = λ a b f g. omega arith; left_unit = λ a f. omega arith; right_unit = λ a f. omega arith; assoc = λ a b c f g h. omega arith } };
 
-    ghost keys_never_refuse = { λ refuses. absurd refuses };
-
-    ghost values_never_refuse = { λ refuses. absurd refuses };
-
     ghost augs_never_refuse = { λ refuses. absurd refuses };
 
     fn base(_alloc: Global, _key: &u64, val: &u64) -> Result<u64, NoMemory> {

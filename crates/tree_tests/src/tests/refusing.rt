@@ -162,10 +162,6 @@ impl Augment for CheckedSum {
 
     ghost monoid = { record { unit_fits = tt; combine_fits = λ a b f g. tt; left_unit = λ a f. omega arith; right_unit = λ a f. omega arith; assoc = λ a b c f g h. omega arith } };
 
-    ghost keys_never_refuse = { λ _. tt };
-
-    ghost values_never_refuse = { λ _. tt };
-
     ghost augs_never_refuse = { λ _. tt };
 
     fn base(_alloc: Global, _key: &u64, val: &u64) -> Result<u64, NoMemory> {
