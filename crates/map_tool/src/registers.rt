@@ -4,7 +4,7 @@ ghost use Rattle.map_tool.specs.Bounds.{height_of};
 ghost use Rattle.map_tool.specs.Effects.{HasEffect, changes};
 ghost use Rattle.map_tool.specs.Registers.{empty_registers, maps_of, register};
 
-use aug_map::CodedMap;
+use aug_map::PlainMap;
 use aug_monoid::{NoMemory, SumMax};
 use script::line;
 use std::alloc::Global;
@@ -14,7 +14,7 @@ use std::marker::Model;
 const REGISTERS: usize = 16;
 
 /// A map from `u64` to `u64` with the saturating sum and the greatest of its values.
-pub(crate) type Register = CodedMap<SumMax<u64>>;
+pub(crate) type Register = PlainMap<SumMax<u64>>;
 
 /// Sixteen registers, 0 to 15, each with a map. Contracts see them as the list of these maps.
 pub struct Registers {

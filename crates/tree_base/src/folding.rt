@@ -81,7 +81,7 @@ fn fold_next<A: Augment, L: Leaf<A::Key, A::Val>, C: Ledger>(
     A::combine(alloc, &front, &back, steps)
 }
 
-/// The fold of a leaf's entries, in one walk over them.
+/// The fold of a leaf's entries: at once where the augment makes it so, else in one walk over them.
 pub fn fold_leaf<A: Augment, L: Leaf<A::Key, A::Val>, C: Ledger>(
     alloc: Global,
     leaf: &L,
@@ -91,6 +91,9 @@ pub fn fold_leaf<A: Augment, L: Leaf<A::Key, A::Val>, C: Ledger>(
     ensures succeeds { A.never_refuses → IsOk result }
     ensures cost { steps.new ≤ steps.old + length (L.entries leaf.now) }
 {
+    if let Some(fold) = A::fold_at_once(alloc, leaf)? {
+        return Ok(fold);
+    }
     let count = leaf.len();
     if count == 0 {
         return Ok(A::unit());
