@@ -1,10 +1,11 @@
 //! The augmented values of a map of points: the same points by rows.
-ghost use Rattle.std.specs.Prelude.{◌≡◌, []};
-ghost use Rattle.range_tree.specs.Rows.{AreRows, row_increases, row_of, rows_monoid, rows_of_both};
+ghost use Rattle.std.specs.Prelude.{◌≡◌, [], map, IfOk};
+ghost use Rattle.range_tree.specs.Listings.{swapped_entry};
+ghost use Rattle.range_tree.specs.Rows.{AreRows, row_increases, row_of, rows_monoid, rows_of, rows_of_both};
 
 use crate::places::swapped;
 use aug_map::{Map, MapOver};
-use aug_monoid::{Augment, NoMemory, Pair64, Second, Share, Steps, SumMax};
+use aug_monoid::{Augment, Leaf, NoMemory, Pair64, Second, Share, Steps, SumMax};
 use row_leaf::RowLeaf;
 use std::alloc::Global;
 use std::marker::Model;
@@ -50,6 +51,35 @@ impl Share for Rows {
         let map = self.map.share(alloc)?;
         Ok(Rows { map })
     }
+}
+
+/// The entries of a leaf by (y, x), in its order.
+fn swapped_entries<L: Leaf<Pair64, u64>>(
+    alloc: Global,
+    leaf: &L,
+) -> Result<Vec<(Pair64, u64)>, NoMemory>
+    ensures { IfOk result (λ list. list.items ≡ map swapped_entry (L.entries leaf.now)) }
+{
+    let mut list = Vec::with_capacity(alloc, leaf.len() as usize)?;
+    let mut walk = leaf.walk();
+    for _at in 0..leaf.len() {
+        let Some(entry) = leaf.walk_next(&mut walk) else {
+            unreachable!()
+        };
+        list.push((swapped(*entry.key()), *entry.val()))?;
+    }
+    Ok(list)
+}
+
+/// The rows of a leaf's points: they are sorted once, where unions of the rows of single points would code each of them many times.
+#[tactic(auto, using(crate::specs::Listings::rows_are))]
+fn rows_of_leaf<L: Leaf<Pair64, u64>>(alloc: Global, leaf: &L) -> Result<Rows, NoMemory>
+    ensures { IfOk result (λ rows. rows ≡ rows_of (L.entries leaf.now)) }
+{
+    let _number = leaf.len(); // for the proof alone: the keys of a leaf rise
+    let list = swapped_entries(alloc, leaf)?;
+    let map = MapOver::build_alone(alloc, &list)?;
+    Ok(Rows { map })
 }
 
 /// Maps from places (x, y) to weights, augmented by the same points as rows.
@@ -99,5 +129,13 @@ impl Augment for Places {
         steps.tick();
         let map = a.map.union_alone(alloc, &b.map, &Second)?;
         Ok(Rows { map })
+    }
+
+    fn fold_at_once<L: Leaf<Pair64, u64>>(
+        alloc: Global,
+        leaf: &L,
+    ) -> Result<Option<Rows>, NoMemory> {
+        let rows = rows_of_leaf(alloc, leaf)?;
+        Ok(Some(rows))
     }
 }
