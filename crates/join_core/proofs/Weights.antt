@@ -31,3 +31,11 @@ mirror_not_too_light left near outer balanced down = omega (arith, balanced.0, b
 
 pub mirror_not_too_heavy : (left near outer : ℕ) → IsBalanced near outer → outer ≤ 3 * (left + near)
 mirror_not_too_heavy left near outer balanced = omega (arith, balanced.1)
+
+-- ---- what a join takes that went down into the near side of the heavy tree
+
+pub one_level_more : (outer near heavy light start joined done link : ℕ) → heavy ≡ outer + near → near ≤ 3 * outer → (near ≤ 3 * light → joined ≤ start + link) → done ≤ joined + 3 * link → heavy ≤ 4 * light → done ≤ start + 4 * link
+one_level_more outer near heavy light start joined done link whole balanced below above few = omega (arith, below (omega (arith, whole, balanced, few)), above)
+
+pub two_levels_more : (outer near heavy light start joined done link : ℕ) → heavy ≡ outer + near → near ≤ 3 * outer → (near ≤ 4 * light → joined ≤ start + 4 * link) → done ≤ joined + 3 * link → 3 * heavy ≤ 16 * light + 3 → done ≤ start + 7 * link
+two_levels_more outer near heavy light start joined done link whole balanced below above few = omega (arith, below (omega (arith, whole, balanced, few)), above)

@@ -4,9 +4,9 @@ ghost use Rattle.map_model.specs.Balance.{IsBalanced, IsBlockSize, weight};
 ghost use Rattle.map_model.specs.Entries.{IsBefore, IsIncreasing};
 ghost use Rattle.tree_base.specs.Shape.{link_cost};
 
-use crate::joins::join;
+use crate::joins::{join, join_lent};
 use crate::owners::{Part, another_owner};
-use aug_monoid::{Augment, Leaf, NoMemory, Share, Steps};
+use aug_monoid::{Augment, Leaf, NoMemory, Share, Steps, share_entry};
 use std::alloc::Global;
 use std::sync::ledger::Ledger;
 use tree_base::{BlockSize, LookOver, TreeOver, cut_around};
@@ -45,17 +45,17 @@ fn first_of_block<A: Augment, L: Leaf<A::Key, A::Val>, S: BlockSize, C: Ledger>(
 fn first_of_node<A: Augment, L: Leaf<A::Key, A::Val>, S: BlockSize, C: Ledger>(
     alloc: Global,
     taken: Taken<A, L, S>,
-    key: A::Key,
-    val: A::Val,
+    key: &A::Key,
+    val: &A::Val,
     right: &TreeOver<A, L, S>,
     steps: &mut Steps<C>,
 ) -> Result<Taken<A, L, S>, NoMemory>
-    requires increasing { IsIncreasing A.Key.cmp (((taken.key, taken.val) ∷ taken.rest.entries) ++ (key, val) ∷ right.now.entries) }
+    requires increasing { IsIncreasing A.Key.cmp (((taken.key, taken.val) ∷ taken.rest.entries) ++ (key.now, val.now) ∷ right.now.entries) }
     requires balanced { IsBalanced (weight taken.rest.entries + 1) (weight right.now.entries) }
-    ensures entries { IfOk result (λ new. ((taken.key, taken.val) ∷ taken.rest.entries) ++ (key, val) ∷ right.now.entries ≡ (new.key, new.val) ∷ new.rest.entries) }
+    ensures entries { IfOk result (λ new. ((taken.key, taken.val) ∷ taken.rest.entries) ++ (key.now, val.now) ∷ right.now.entries ≡ (new.key, new.val) ∷ new.rest.entries) }
     ensures cost { steps.new ≤ steps.old + 7 * link_cost S.SIZE }
 {
-    let joined = join(alloc, &taken.rest, key, val, right, steps)?;
+    let joined = join_lent(alloc, &taken.rest, key, val, right, steps)?;
     Ok(Taken {
         key: taken.key,
         val: taken.val,
@@ -66,13 +66,14 @@ fn first_of_node<A: Augment, L: Leaf<A::Key, A::Val>, S: BlockSize, C: Ledger>(
 /// An entry and a map above it.
 fn entry_and_rest<A: Augment, L: Leaf<A::Key, A::Val>, S: BlockSize>(
     alloc: Global,
-    key: A::Key,
-    val: A::Val,
+    key: &A::Key,
+    val: &A::Val,
     right: &TreeOver<A, L, S>,
 ) -> Result<Taken<A, L, S>, NoMemory>
-    ensures { IfOk result (λ taken. (key, val) ∷ right.now.entries ≡ (taken.key, taken.val) ∷ taken.rest.entries) }
+    ensures { IfOk result (λ taken. (key.now, val.now) ∷ right.now.entries ≡ (taken.key, taken.val) ∷ taken.rest.entries) }
 {
     let rest = right.share(alloc)?;
+    let (key, val) = share_entry(alloc, key, val)?;
     Ok(Taken { key, val, rest })
 }
 
@@ -95,8 +96,6 @@ fn take_first<A: Augment, L: Leaf<A::Key, A::Val>, S: BlockSize, C: Ledger>(
             val: node_val,
             right,
         } => {
-            let node_key = node_key.share(alloc)?;
-            let node_val = node_val.share(alloc)?;
             if left.size() == 0 {
                 return entry_and_rest(alloc, node_key, node_val, right);
             }

@@ -7,7 +7,7 @@ ghost use Rattle.tree_base.specs.Shape.{link_cost};
 use crate::owners::Part;
 use crate::sizes::{are_balanced, are_small, weight_of};
 use crate::turns::{repair_left, repair_right};
-use aug_monoid::{Augment, Leaf, NoMemory, Share, Steps};
+use aug_monoid::{Augment, Leaf, NoMemory, Steps, share_entry};
 use balance::link_here;
 use std::alloc::Global;
 use std::sync::ledger::Ledger;
@@ -42,8 +42,6 @@ fn join_right<A: Augment, L: Leaf<A::Key, A::Val>, S: BlockSize, C: Ledger>(
         unreachable!()
     };
     let near = join_right(alloc, Part { tree: near }, key, val, right, steps)?;
-    let outer_key = outer_key.share(alloc)?;
-    let outer_val = outer_val.share(alloc)?;
     repair_right(alloc, outer, outer_key, outer_val, &near, steps)
 }
 
@@ -76,8 +74,6 @@ fn join_left<A: Augment, L: Leaf<A::Key, A::Val>, S: BlockSize, C: Ledger>(
         unreachable!()
     };
     let near = join_left(alloc, left, key, val, Part { tree: near }, steps)?;
-    let outer_key = outer_key.share(alloc)?;
-    let outer_val = outer_val.share(alloc)?;
     repair_left(alloc, &near, outer_key, outer_val, outer, steps)
 }
 
@@ -116,6 +112,24 @@ pub fn join<A: Augment, L: Leaf<A::Key, A::Val>, S: BlockSize, C: Ledger>(
             steps,
         )
     }
+}
+
+/// The same as `join`, of an entry that gets another owner.
+pub fn join_lent<A: Augment, L: Leaf<A::Key, A::Val>, S: BlockSize, C: Ledger>(
+    alloc: Global,
+    left: &TreeOver<A, L, S>,
+    key: &A::Key,
+    val: &A::Val,
+    right: &TreeOver<A, L, S>,
+    steps: &mut Steps<C>,
+) -> Result<TreeOver<A, L, S>, NoMemory>
+    requires below { AllBelow A.Key.cmp left.now.entries key.now }
+    requires above { AllAbove A.Key.cmp right.now.entries key.now }
+    ensures entries { IfOk result (λ tree. tree.entries ≡ left.now.entries ++ (key.now, val.now) ∷ right.now.entries) }
+    ensures cost { weight left.now.entries ≤ 3 * weight right.now.entries + 3 → weight right.now.entries ≤ 3 * weight left.now.entries + 3 → steps.new ≤ steps.old + 7 * link_cost S.SIZE }
+{
+    let (key, val) = share_entry(alloc, key, val)?;
+    join(alloc, left, key, val, right, steps)
 }
 
 /// The same as `join`, of trees that are given up. Where they are balanced, as mostly after a change of one entry in one of

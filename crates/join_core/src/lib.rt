@@ -12,5 +12,5 @@ mod sizes;
 mod turns;
 
 pub use ends::join2;
-pub use joins::{join, join_owned};
+pub use joins::{join, join_lent, join_owned};
 pub use owners::{Part, another_owner};

@@ -28,6 +28,26 @@ fn base_next<A: Augment, L: Leaf<A::Key, A::Val>>(
     A::base(alloc, entry.key(), entry.val())
 }
 
+/// A fold, combined with the augmented value of the next entry of a walk.
+fn fold_more<A: Augment, L: Leaf<A::Key, A::Val>, C: Ledger>(
+    alloc: Global,
+    leaf: &L,
+    walk: &mut Walk,
+    fold: &A::Aug,
+    steps: &mut Steps<C>,
+) -> Result<A::Aug, NoMemory>
+    requires place { L.fits_walk leaf.now walk.old }
+    requires inside { walk.old.index < length (L.entries leaf.now) }
+    ensures value { IfOk result (λ more. more ≡ A.combined fold.now (fold_of A.base_of A.unit_of A.combined (take 1 (drop walk.old.index (L.entries leaf.now))))) }
+    ensures succeeds { A.never_refuses → IsOk result }
+    ensures moved { walk.new.index ≡ walk.old.index + 1 }
+    ensures place { L.fits_walk leaf.now walk.new }
+    ensures cost { steps.new ≤ steps.old + 1 }
+{
+    let base = base_next::<A, L>(alloc, leaf, walk)?;
+    A::combine(alloc, fold, &base, steps)
+}
+
 /// The fold of the next entries of a walk, from the left.
 fn fold_run<A: Augment, L: Leaf<A::Key, A::Val>, C: Ledger>(
     alloc: Global,
@@ -48,8 +68,7 @@ fn fold_run<A: Augment, L: Leaf<A::Key, A::Val>, C: Ledger>(
     let _start = walk.index; // for the proof alone
     let mut fold = base_next::<A, L>(alloc, leaf, walk)?;
     for _at in 1..count {
-        let base = base_next::<A, L>(alloc, leaf, walk)?;
-        fold = A::combine(alloc, &fold, &base, steps)?;
+        fold = fold_more::<A, L, C>(alloc, leaf, walk, &fold, steps)?;
     }
     Ok(fold)
 }

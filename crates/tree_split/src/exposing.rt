@@ -3,7 +3,7 @@ ghost use Rattle.std.specs.Prelude.{◌≡◌, ◌+◌, ◌*◌, ◌<◌, ◌≤
 ghost use Rattle.map_model.specs.Balance.{IsBalanced, IsBlockSize, weight};
 ghost use Rattle.map_model.specs.Entries.{IsIncreasing};
 
-use aug_monoid::{Augment, Leaf, NoMemory, Share, Steps};
+use aug_monoid::{Augment, Leaf, NoMemory, Share, Steps, share_entry};
 use std::alloc::Global;
 use std::marker::Brand;
 use std::sync::ledger::{Blank, Ledger};
@@ -62,11 +62,14 @@ fn shared_sides<A: Augment, L: Leaf<A::Key, A::Val>, S: BlockSize>(
     ensures val { IfOk result (λ p. p.val ≡ val.now) }
     ensures right { IfOk result (λ p. p.right ≡ right.now) }
 {
+    let left = left.share(alloc)?;
+    let right = right.share(alloc)?;
+    let (key, val) = share_entry(alloc, key, val)?;
     Ok(ExposedOver {
-        left: left.share(alloc)?,
-        key: key.share(alloc)?,
-        val: val.share(alloc)?,
-        right: right.share(alloc)?,
+        left,
+        key,
+        val,
+        right,
     })
 }
 

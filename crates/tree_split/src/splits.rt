@@ -4,7 +4,7 @@ ghost use Rattle.map_model.specs.Balance.{IsBlockSize};
 ghost use Rattle.map_model.specs.Entries.{AllAbove, AllBelow, IsIncreasing, above, below, lookup};
 
 use aug_monoid::{Augment, Key, Leaf, NoMemory, Share, Steps};
-use join_core::{Part, join};
+use join_core::{Part, join_lent};
 use std::alloc::Global;
 use std::cmp::Ordering;
 use std::sync::ledger::Ledger;
@@ -134,18 +134,18 @@ fn split_block<A: Augment, L: Leaf<A::Key, A::Val>, S: BlockSize, C: Ledger>(
 fn extend_above<A: Augment, L: Leaf<A::Key, A::Val>, S: BlockSize, C: Ledger>(
     alloc: Global,
     parts: PartsOver<A, L, S>,
-    key: A::Key,
-    val: A::Val,
+    key: &A::Key,
+    val: &A::Val,
     right: &TreeOver<A, L, S>,
     steps: &mut Steps<C>,
 ) -> Result<PartsOver<A, L, S>, NoMemory>
-    requires lower { AllBelow A.Key.cmp parts.above.entries key }
-    requires upper { AllAbove A.Key.cmp right.now.entries key }
+    requires lower { AllBelow A.Key.cmp parts.above.entries key.now }
+    requires upper { AllAbove A.Key.cmp right.now.entries key.now }
     ensures below { IfOk result (λ new. new.below.entries ≡ parts.below.entries) }
     ensures found { IfOk result (λ new. new.found ≡ parts.found) }
-    ensures above { IfOk result (λ new. new.above.entries ≡ parts.above.entries ++ (key, val) ∷ right.now.entries) }
+    ensures above { IfOk result (λ new. new.above.entries ≡ parts.above.entries ++ (key.now, val.now) ∷ right.now.entries) }
 {
-    let higher = join(alloc, &parts.above, key, val, right, steps)?;
+    let higher = join_lent(alloc, &parts.above, key, val, right, steps)?;
     Ok(PartsOver {
         below: parts.below,
         found: parts.found,
@@ -157,18 +157,18 @@ fn extend_above<A: Augment, L: Leaf<A::Key, A::Val>, S: BlockSize, C: Ledger>(
 fn extend_below<A: Augment, L: Leaf<A::Key, A::Val>, S: BlockSize, C: Ledger>(
     alloc: Global,
     left: &TreeOver<A, L, S>,
-    key: A::Key,
-    val: A::Val,
+    key: &A::Key,
+    val: &A::Val,
     parts: PartsOver<A, L, S>,
     steps: &mut Steps<C>,
 ) -> Result<PartsOver<A, L, S>, NoMemory>
-    requires lower { AllBelow A.Key.cmp left.now.entries key }
-    requires upper { AllAbove A.Key.cmp parts.below.entries key }
-    ensures below { IfOk result (λ new. new.below.entries ≡ left.now.entries ++ (key, val) ∷ parts.below.entries) }
+    requires lower { AllBelow A.Key.cmp left.now.entries key.now }
+    requires upper { AllAbove A.Key.cmp parts.below.entries key.now }
+    ensures below { IfOk result (λ new. new.below.entries ≡ left.now.entries ++ (key.now, val.now) ∷ parts.below.entries) }
     ensures found { IfOk result (λ new. new.found ≡ parts.found) }
     ensures above { IfOk result (λ new. new.above.entries ≡ parts.above.entries) }
 {
-    let lower = join(alloc, left, key, val, &parts.below, steps)?;
+    let lower = join_lent(alloc, left, key, val, &parts.below, steps)?;
     Ok(PartsOver {
         below: lower,
         found: parts.found,
@@ -237,15 +237,11 @@ fn split_in<A: Augment, L: Leaf<A::Key, A::Val>, S: BlockSize, C: Ledger>(
         } => match key.order(node_key, steps) {
             Ordering::Less => {
                 let parts = split_in(alloc, Part { tree: left }, key, steps)?;
-                let node_key = node_key.share(alloc)?;
-                let node_val = node_val.share(alloc)?;
                 extend_above(alloc, parts, node_key, node_val, right, steps)
             }
             Ordering::Equal => parts_of_sides(alloc, left, node_val, right),
             Ordering::Greater => {
                 let parts = split_in(alloc, Part { tree: right }, key, steps)?;
-                let node_key = node_key.share(alloc)?;
-                let node_val = node_val.share(alloc)?;
                 extend_below(alloc, left, node_key, node_val, parts, steps)
             }
         },

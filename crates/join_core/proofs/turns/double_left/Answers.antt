@@ -1,28 +1,40 @@
-use Rattle.std.proofs.Common.{subst}
+use Rattle.std.proofs.lemmas.Grind.{common_steps}
+use Rattle.std.proofs.Common.{subst, arith}
 use Rattle.map_model.specs.Entries.{IsIncreasing}
 use Rattle.map_model.proofs.Keys.{IsIncreasing-front, around}
 use Rattle.map_model.proofs.Cuts.{weight-around}
 use Rattle.join_core.proofs.Weights.{mirror_whole, mirror_balances}
 use Rattle.join_core.proofs.turns.double_left.Goals as goal
 
-pub link-requires-clause-increasing : goal.link-requires-clause-increasing
-link-requires-clause-increasing g c =
+pub link_lent-requires-clause-increasing : goal.link_lent-requires-clause-increasing
+link_lent-requires-clause-increasing g c =
     let whole = subst (IsIncreasing g.A.Key.Ord.cmp) (mirror_whole c.args.last.now.entries _ _ _ _ _ _) (rw c.in-Node.ensures.top.entries_are at c.requires.increasing) in
     IsIncreasing-front g.A.Key.Ord.cmp _ _ whole
 
-pub link-requires-2-clause-increasing : goal.link-requires-2-clause-increasing
-link-requires-2-clause-increasing g c =
+pub link_lent-requires-2-clause-increasing : goal.link_lent-requires-2-clause-increasing
+link_lent-requires-2-clause-increasing g c =
     let whole = subst (IsIncreasing g.A.Key.Ord.cmp) (mirror_whole c.args.last.now.entries _ _ _ _ _ _) (rw c.in-Node.ensures.top.entries_are at c.requires.increasing) in
     (around _ _ _ _ _ whole).right
 
-pub link-requires-3-clause-increasing : goal.link-requires-3-clause-increasing
-link-requires-3-clause-increasing g c =
+pub link_lent-requires-3-clause-increasing : goal.link_lent-requires-3-clause-increasing
+link_lent-requires-3-clause-increasing g c =
     let whole = subst (IsIncreasing g.A.Key.Ord.cmp) (mirror_whole c.args.last.now.entries _ _ _ _ _ _) (rw c.in-Node.ensures.top.entries_are at c.requires.increasing) in
-    rw (c.in_ok-front.ensures.entries, c.in_ok-back.ensures.entries, c.in_ok-inner_key.ensures.value, c.in_ok-inner_val.ensures.value) whole
+    rw (c.in_ok-front.ensures.entries, c.in_ok-back.ensures.entries) whole
 
-pub link-requires-3-clause-balanced : goal.link-requires-3-clause-balanced
-link-requires-3-clause-balanced g c = λ _.
+pub link_lent-requires-3-clause-balanced : goal.link_lent-requires-3-clause-balanced
+link_lent-requires-3-clause-balanced g c = λ _.
     let inner = weight-around _ _ _ _ c.in-Node.ensures.top.entries_are in
     let front = weight-around _ _ _ _ c.in_ok-front.ensures.entries in
     let back = weight-around _ _ _ _ c.in_ok-back.ensures.entries in
     rw (front, back) (mirror_balances _ _ _ _ (rw inner at c.requires.repairable) c.in-Node.ensures.top.balanced (rw inner at c.requires.unbalanced) (rw inner at c.requires.not_single))
+
+pub link_lent-requires-clause-balanced : goal.link_lent-requires-clause-balanced
+link_lent-requires-clause-balanced g c = grind (arith, common_steps)
+
+pub link_lent-requires-2-clause-balanced : goal.link_lent-requires-2-clause-balanced
+link_lent-requires-2-clause-balanced g c = grind (arith, common_steps)
+
+pub returns-clause-entries : goal.returns-clause-entries
+returns-clause-entries g c =
+    rw (c.in-Node.ensures.top.entries_are, mirror_whole c.args.last.now.entries (c.args.near_key.now, c.args.near_val.now) c.in-Node.b.now.entries (c.in-Node.inner_key.now, c.in-Node.inner_val.now) c.in-Node.a.now.entries (c.args.key.now, c.args.val.now) c.args.outer.now.entries)
+    (rw (c.in_ok-front.ensures.entries, c.in_ok-back.ensures.entries) at c.link_lent-3.ensures.entries)

@@ -19,6 +19,6 @@ loop-at-preserved g c =
     take-add at 1 (drop start entries) ∙ ap (λ x. front ++ take 1 x) (drop-drop at start entries) in
     let fold = fold_of augment.base_of augment.unit_of augment.combined in
     let joined : fold (front ++ one) ≡ augment.combined (fold front) (fold one) = fold-append law.monoid law.base_fits front one in
-    let more : fold (take (at + 1) (drop start entries)) ≡ augment.combined c.loop-at.fold c.in_ok-base.base =
-    rw (whole, c.loop-at.invariant.0, rw index at c.in_ok-base.ensures.value) joined in
-    (rw (more, c.in_ok-fold-2.ensures.value) refl, omega (arith, c.loop-at.invariant.1, c.in_ok-fold-2.ensures.one_step), omega (arith, c.in_ok-base.ensures.moved, index), c.in_ok-base.ensures.place)
+    let more : fold (take (at + 1) (drop start entries)) ≡ c.in_ok-fold-2.fold =
+    rw (whole, c.in_ok-fold-2.ensures.value, c.loop-at.invariant.0, index) joined in
+    (rw more refl, omega (arith, c.loop-at.invariant.1, c.in_ok-fold-2.ensures.cost), omega (arith, c.in_ok-fold-2.ensures.moved, index), c.in_ok-fold-2.ensures.place)

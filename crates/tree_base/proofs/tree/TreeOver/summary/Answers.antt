@@ -1,0 +1,10 @@
+use Rattle.std.proofs.Common.{length, arith}
+use Rattle.map_model.proofs.Heights.{height_small}
+use Rattle.tree_base.proofs.tree.TreeOver.summary.Goals as goal
+
+pub overflow_add-height : goal.overflow_add-height
+overflow_add-height g c =
+    let block = g.S.BlockSize.SIZE in
+    let left = height_small block c.args.left.now.height (length c.args.left.now.entries) c.requires.block_size.0 (omega (arith, c.size.ensures.value, c.size.ensures.fits)) c.height.ensures.law in
+    let right = height_small block c.args.right.now.height (length c.args.right.now.entries) c.requires.block_size.0 (omega (arith, c.size-2.ensures.value, c.size-2.ensures.fits)) c.height-2.ensures.law in
+    omega (arith, left, right, c.max-height.ensures, c.height.ensures.value, c.height-2.ensures.value)
