@@ -1,5 +1,5 @@
 -- A map and a slice that are cut at an entry of the map.
-use Rattle.std.proofs.Common.{◌≡◌, ◌+◌, ◌<◌, List, ◌∷◌, ◌++◌, length, sym, ap, ap₂, subst, ◌∙◌, arith}
+use Rattle.std.proofs.Common.{◌≡◌, ◌<◌, List, ◌∷◌, ◌++◌, length, sym, ap, ap₂, subst, ◌∙◌, arith}
 use Rattle.std.specs.Borrow.{Bor}
 use Rattle.std.specs.Option.{option_map_or}
 use Rattle.std.specs.declared.cmp.Ordering.{Ordering}
@@ -10,7 +10,7 @@ use Rattle.map_model.specs.Entries.{IsIncreasing, lookup, below, above}
 use Rattle.map_model.specs.SetOperations.{union}
 use Rattle.map_model.proofs.Cuts.{length-around}
 use Rattle.map_model.proofs.Unions.{IsIncreasing-union, union-split_first}
-use Rattle.bulk_changes.specs.Parts.{IsPutTogether, union_of_part}
+use Rattle.bulk_changes.specs.Parts.{IsPutTogether}
 
 module _ {K V : Type 0} {order : K → K → Ordering} (total : IsTotalOrder order) (exact : IsExact order) (f : V → V → V) where
   pub put_together : (part front back : Contents K V × Bor (List (K × V))) (k : K) (v new : V) → part.0.entries ≡ front.0.entries ++ (k, v) ∷ back.0.entries → IsIncreasing order part.0.entries → IsIncreasing order part.1.now

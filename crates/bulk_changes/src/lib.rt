@@ -7,9 +7,7 @@
 
 mod into_entries;
 mod merging;
-mod slicing;
 mod taking;
-mod uncounted;
 mod uniting;
 
 pub use into_entries::IntoEntries;

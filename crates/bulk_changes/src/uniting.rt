@@ -7,15 +7,15 @@ ghost use Rattle.bulk_changes.specs.Parts.{IsPutTogether, union_of_part};
 
 use crate::into_entries::IntoEntries;
 use crate::merging::{merge_into, resolved};
-use crate::slicing::cut_slice;
 use crate::taking::{Taken, take_apart};
-use crate::uncounted::{joined, planted};
 use aug_monoid::{Augment, NoMemory, Resolve, SyncAugment};
+use entry_lists::cut_slice;
 use fork_join::{Cut, Divide, Gate, Opened, divide, divide_alone};
 use std::alloc::Global;
 use std::marker::{Send, Sync};
 use std::thread::Threads;
 use tree_base::{BlockSize, TreeOver};
+use tree_making::{joined, tree_of};
 
 #[derive(Drop)]
 struct Uniting<'a, H> {
@@ -85,7 +85,7 @@ fn open_part<'b, A: Augment, L: IntoEntries<A::Key, A::Val>, S: BlockSize, H: Re
     match take_apart(alloc, tree)? {
         Taken::Entries(entries) => {
             let merged = merge_into(alloc, entries, list, how)?;
-            Ok(Opened::Done(planted(alloc, merged)?))
+            Ok(Opened::Done(tree_of(alloc, merged)?))
         }
         Taken::Node {
             left,

@@ -1,12 +1,14 @@
 -- Two trees cut at an entry of one of them.
-use Rattle.std.proofs.Common.{◌≡◌, ◌+◌, ◌<◌, List, ◌∷◌, ◌++◌, length, Option, Some, ap, subst, ◌∙◌, arith}
+use Rattle.std.proofs.Common.{◌≡◌, ◌+◌, ◌<◌, List, ◌∷◌, ◌++◌, length, Option, Some, sym, ap, subst, ◌∙◌, arith}
+use Rattle.std.specs.List.{cons_option}
 use Rattle.std.specs.declared.cmp.Ordering.{Ordering}
 use Rattle.std.specs.Ordering.{is_lt, is_gt}
 use Rattle.map_model.specs.Contents.{Contents}
 use Rattle.map_model.specs.Entries.{IsIncreasing, lookup, below, above}
 use Rattle.map_model.proofs.Cuts.{length-around}
 use Rattle.map_model.proofs.Lengths.{length-filter_le}
-use Rattle.bulk_ops.specs.Answers.{IsPutTogether}
+use Rattle.fork_join.specs.Openings.{AreHalves}
+use Rattle.bulk_passes.specs.Answers.{IsAnswer, IsPutTogether}
 use Rattle.bulk_ops.specs.Combination.{IsCombination, combined_entries, entry_at}
 
 module _ {K V : Type 0} {order : K → K → Ordering} {combined : List (K × V) → List (K × V) → List (K × V)} {kept : Option V → Option V → Option V} {first second : _} (laws : IsCombination order combined kept first second) where
@@ -21,16 +23,13 @@ module _ {K V : Type 0} {order : K → K → Ordering} {combined : List (K × V)
         increasing = rw (low, high, m) (subst (IsIncreasing order) whole (laws.increases a.entries b.entries s t));
       }
 
-  -- an entry of the second
-  pub cut_at_second : (a b front back below' above' : Contents K V) (k : K) (w : V) (middle : Option (K × V)) → b.entries ≡ front.entries ++ (k, w) ∷ back.entries → IsIncreasing order a.entries → IsIncreasing order b.entries → below'.entries ≡ below order a.entries k → above'.entries ≡ above order a.entries k → middle ≡ entry_at k (kept (lookup order a.entries k) (Some w))
-      → IsPutTogether order (combined_entries combined) (a, b) (below', front) middle (above', back)
-  cut_at_second a b front back below' above' k w middle is s t low high m =
-      let split = laws.split_second a.entries front.entries k w back.entries s (subst (IsIncreasing order) is t) in
-      let whole : combined a.entries b.entries ≡ _ = ap (λ x. combined a.entries x) is ∙ split in
-      record {
-        whole = rw (low, high, m) whole;
-        increasing = rw (low, high, m) (subst (IsIncreasing order) whole (laws.increases a.entries b.entries s t));
-      }
+-- the combination of two halves is that of the whole, and its keys rise
+module _ {K V : Type 0} (order : K → K → Ordering) (combined : List (K × V) → List (K × V) → List (K × V)) where
+  pub halves_rise : (left right : Contents K V) (middle : Option (K × V)) → AreHalves (IsAnswer (combined_entries combined)) (IsPutTogether order (combined_entries combined)) left middle right → IsIncreasing order (left.entries ++ cons_option middle right.entries)
+  halves_rise left right middle h = rw (h.front_answer, h.back_answer) h.divided.increasing
+
+  pub halves_combined : (left right out : Contents K V) (middle : Option (K × V)) → out.entries ≡ left.entries ++ cons_option middle right.entries → (part front back : Contents K V × Contents K V) → IsPutTogether order (combined_entries combined) part front middle back → IsAnswer (combined_entries combined) front left → IsAnswer (combined_entries combined) back right → IsAnswer (combined_entries combined) part out
+  halves_combined left right out middle is part front back put front_is back_is = is ∙ rw (front_is, back_is) (sym put.whole)
 
 -- the parts are smaller than the whole
 module _ {K V : Type 0} (order : K → K → Ordering) where

@@ -1,25 +1,25 @@
 //! The combination of two trees as work that is divided.
-ghost use Rattle.std.specs.Prelude.{◌≡◌, ◌+◌, Some, IfOk};
+ghost use Rattle.std.specs.Prelude.{◌≡◌, ◌+◌, ◌<◌, ◌^◌, Some, IfOk};
 ghost use Rattle.std.specs.Option.{option_map};
-ghost use Rattle.map_model.specs.Entries.{lookup, IsIncreasing};
+ghost use Rattle.map_model.specs.Entries.{lookup, below, above, IsIncreasing};
 ghost use Rattle.map_model.specs.Balance.{IsBlockSize};
 ghost use Rattle.fork_join.specs.Openings.{IsOpened};
-ghost use Rattle.bulk_ops.specs.Answers.{IsAnswer, IsPutTogether};
-ghost use Rattle.bulk_ops.specs.Combination.{combined_entries, entry_count};
+ghost use Rattle.bulk_passes.specs.Answers.{IsAnswer, IsPutTogether};
+ghost use Rattle.bulk_ops.specs.Combination.{combined_entries, entry_at, entry_count};
 
 use crate::combination::Combination;
 use crate::exchanged::Exchanged;
-use crate::few::{combine_few, combine_lists};
-use crate::middle::join_around;
-use crate::small::{FEW_BLOCKS, SLICED_BLOCKS, entries_of, kept_or_none};
-use crate::uncounted::split_at;
+use crate::few::{FEW_BLOCKS, combine_few, combine_lists, kept_or_none};
+use crate::splitting::split_at;
 use aug_monoid::{Augment, Key, Leaf, NoMemory, Share, SyncAugment};
+use bulk_passes::SLICED_BLOCKS;
 use fork_join::{Cut, Divide, Gate, Opened, divide, divide_alone};
 use join_core::Part;
 use std::alloc::Global;
 use std::marker::{Send, Sync};
 use std::thread::Threads;
 use tree_base::{BlockSize, LookOver, TreeOver};
+use tree_making::{entries_of, join_around};
 use tree_split::PartsOver;
 
 #[derive(Drop)]
@@ -73,8 +73,7 @@ impl<'a, A: Augment, L: Leaf<A::Key, A::Val>, S: BlockSize, W: Combination<A::Ke
     }
 }
 
-/// Two trees of which one is empty, which are small and of like sizes, of which one has few entries, or which are cut at the
-/// root of the greater one.
+/// Two trees of which one is empty, or which both have entries.
 fn open_sides<A: Augment, L: Leaf<A::Key, A::Val>, S: BlockSize, W: Combination<A::Key, A::Val>>(
     alloc: Global,
     how: &W,
@@ -94,20 +93,47 @@ fn open_sides<A: Augment, L: Leaf<A::Key, A::Val>, S: BlockSize, W: Combination<
     if second == 0 {
         return Ok(Opened::Done(kept_or_none(a, how.keeps_first())));
     }
-    let both = first + second;
-    let few = both <= 4 * a.block_size();
-    let alike = both / 8 <= first.min(second);
-    if few || (alike && both <= SLICED_BLOCKS * a.block_size()) {
-        return Ok(Opened::Done(combine_small(alloc, how, &a, &b)?));
+    open_both(alloc, how, &a, &b)
+}
+
+/// Two trees which are small and of like sizes, of which one has few entries, or which are cut at the root of the greater one.
+fn open_both<A: Augment, L: Leaf<A::Key, A::Val>, S: BlockSize, W: Combination<A::Key, A::Val>>(
+    alloc: Global,
+    how: &W,
+    a: &TreeOver<A, L, S>,
+    b: &TreeOver<A, L, S>,
+) -> Result<
+    Opened<(TreeOver<A, L, S>, TreeOver<A, L, S>), Option<(A::Key, A::Val)>, TreeOver<A, L, S>>,
+    NoMemory,
+>
+    ensures { IfOk result (IsOpened (λ _. Unit {0}) (IsAnswer (combined_entries (W.combined how.now)) (a.now, b.now)) (IsPutTogether A.Key.cmp (combined_entries (W.combined how.now)) (a.now, b.now)) entry_count (entry_count (a.now, b.now))) }
+{
+    let first = a.size();
+    let second = b.size();
+    let block = a.block_size();
+    if are_small(first, second, block) {
+        return Ok(Opened::Done(combine_small(alloc, how, a, b)?));
     }
-    if first.min(second) <= FEW_BLOCKS * a.block_size() {
-        return Ok(Opened::Done(combine_unlike(alloc, how, &a, &b)?));
+    if first.min(second) <= FEW_BLOCKS * block {
+        return Ok(Opened::Done(combine_unlike(alloc, how, a, b)?));
     }
     if first >= second {
-        cut_first(alloc, how, &a, &b)
+        cut_first(alloc, how, a, b)
     } else {
-        cut_second(alloc, how, &a, &b)
+        cut_second(alloc, how, a, b)
     }
+}
+
+/// Whether two trees of so many entries are combined as slices.
+fn are_small(first: u64, second: u64, block: u64) -> bool
+    requires first { first < 2 ^ 60 }
+    requires second { second < 2 ^ 60 }
+    requires block { IsBlockSize block }
+{
+    let both = first + second;
+    let few = both <= 4 * block;
+    let alike = both / 8 <= first.min(second);
+    few || (alike && both <= SLICED_BLOCKS * block)
 }
 
 /// Two trees combined as slices.
@@ -166,6 +192,48 @@ pub(crate) fn keep_entry<K: Key, V: Share, W: Combination<K, V>>(
     }
 }
 
+/// A tree cut at a key of another one, and what stays of that key.
+fn cut_at<A: Augment, L: Leaf<A::Key, A::Val>, S: BlockSize, W: Combination<A::Key, A::Val>>(
+    alloc: Global,
+    how: &W,
+    key: &A::Key,
+    val: &A::Val,
+    tree: &TreeOver<A, L, S>,
+) -> Result<
+    (
+        TreeOver<A, L, S>,
+        Option<(A::Key, A::Val)>,
+        TreeOver<A, L, S>,
+    ),
+    NoMemory,
+>
+    ensures below { IfOk result (λ cut. cut.0.entries ≡ below A.Key.cmp tree.now.entries key.now) }
+    ensures middle { IfOk result (λ cut. cut.1 ≡ entry_at key.now (W.kept how.now (Some val.now) (lookup A.Key.cmp tree.now.entries key.now))) }
+    ensures above { IfOk result (λ cut. cut.2.entries ≡ above A.Key.cmp tree.now.entries key.now) }
+{
+    let PartsOver {
+        below,
+        found,
+        above,
+    } = split_at(alloc, tree, key)?;
+    let middle = keep_entry(alloc, how, key, Some(val), found.as_ref())?;
+    Ok((below, middle, above))
+}
+
+/// Other owners of two trees.
+fn shared_sides<A: Augment, L: Leaf<A::Key, A::Val>, S: BlockSize>(
+    alloc: Global,
+    left: &TreeOver<A, L, S>,
+    right: &TreeOver<A, L, S>,
+) -> Result<(TreeOver<A, L, S>, TreeOver<A, L, S>), NoMemory>
+    ensures near { IfOk result (λ sides. sides.0.entries ≡ left.now.entries) }
+    ensures far { IfOk result (λ sides. sides.1.entries ≡ right.now.entries) }
+{
+    let near = left.share(alloc)?;
+    let far = right.share(alloc)?;
+    Ok((near, far))
+}
+
 /// Two trees cut at the root of the first.
 fn cut_first<A: Augment, L: Leaf<A::Key, A::Val>, S: BlockSize, W: Combination<A::Key, A::Val>>(
     alloc: Global,
@@ -187,14 +255,8 @@ fn cut_first<A: Augment, L: Leaf<A::Key, A::Val>, S: BlockSize, W: Combination<A
             val,
             right,
         } => {
-            let PartsOver {
-                below,
-                found,
-                above,
-            } = split_at(alloc, b, key)?;
-            let middle = keep_entry(alloc, how, key, Some(val), found.as_ref())?;
-            let near = left.share(alloc)?;
-            let far = right.share(alloc)?;
+            let (near, far) = shared_sides(alloc, left, right)?;
+            let (below, middle, above) = cut_at(alloc, how, key, val, b)?;
             Ok(Opened::Split((near, below), middle, (far, above)))
         }
         _ => Ok(Opened::Done(combine_small(alloc, how, a, b)?)),
@@ -215,24 +277,13 @@ fn cut_second<A: Augment, L: Leaf<A::Key, A::Val>, S: BlockSize, W: Combination<
     requires second { IsIncreasing A.Key.cmp b.now.entries }
     ensures { IfOk result (IsOpened (λ _. Unit {0}) (IsAnswer (combined_entries (W.combined how.now)) (a.now, b.now)) (IsPutTogether A.Key.cmp (combined_entries (W.combined how.now)) (a.now, b.now)) entry_count (entry_count (a.now, b.now))) }
 {
-    match b.look() {
-        LookOver::Node {
-            left,
-            key,
-            val,
-            right,
-        } => {
-            let PartsOver {
-                below,
-                found,
-                above,
-            } = split_at(alloc, a, key)?;
-            let middle = keep_entry(alloc, how, key, found.as_ref(), Some(val))?;
-            let near = left.share(alloc)?;
-            let far = right.share(alloc)?;
+    match cut_first(alloc, &Exchanged { how }, b, a)? {
+        Opened::Done(tree) => Ok(Opened::Done(tree)),
+        Opened::Split(front, middle, back) => {
+            let (near, below) = front;
+            let (far, above) = back;
             Ok(Opened::Split((below, near), middle, (above, far)))
         }
-        _ => Ok(Opened::Done(combine_small(alloc, how, a, b)?)),
     }
 }
 

@@ -5,26 +5,17 @@
 //! memory, which leaves all arguments as they were.
 #![tactic(auto)]
 
-mod block;
 mod combination;
 mod combining;
 mod differing;
 mod exchanged;
 mod few;
-mod filtering;
 mod meeting;
-mod middle;
 mod one;
-mod planting;
-mod reducing;
-mod slicing;
-mod small;
-mod uncounted;
+mod splitting;
 mod uniting;
 
+pub use bulk_passes::{filter, filter_alone, map_reduce, map_reduce_alone, plant, plant_alone};
 pub use differing::{difference, difference_alone};
-pub use filtering::{filter, filter_alone};
 pub use meeting::{intersect, intersect_alone};
-pub use planting::{plant, plant_alone};
-pub use reducing::{map_reduce, map_reduce_alone};
 pub use uniting::{union, union_alone};

@@ -1,1 +1,2 @@
 pub mod MergeSteps
+pub mod Slices

@@ -21,7 +21,6 @@ pub fn push_shared<K: Share, V: Share>(
 
 /// Appends another owner of each entry of a slice, in order. What stood there before stands after a refusal too, and some of
 /// the entries behind it.
-#[tactic(auto, using(map_model::proofs::Prefixes::front_more, map_model::proofs::Prefixes::front_same))]
 pub fn push_all_shared<K: Share, V: Share>(
     alloc: Global,
     into: &mut Vec<(K, V)>,

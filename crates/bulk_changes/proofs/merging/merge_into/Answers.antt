@@ -11,14 +11,14 @@ loop-entry-preserved g c =
     let f = g.H.Resolve.resolved c.args.how.now in
     let at = c.loop-entry in
     let entry = c.in-Some.entry in
-    let parts = c.cut_slice-parts.result in
+    let parts = c.cut_front-parts.result in
     let found = option_map (λ v. v.now) parts.found in
     let steps : into_iter_items at.entry-iterator ≡ entry ∷ into_iter_items c.next.new.self = c.in-Some.ensures.steps.0 in
     let pushed : c.push_merged.new.into.items ≡ (at.out.items ++ parts.below.now) ++ (entry.0, option_map_or (λ v. f entry.1 v) found entry.1) ∷ [] = search rules in
     let was = at.invariant.1 in
     let gone = c.in-Some.ensures.steps.1 in
     let short = ap length steps in (
-      merged_on g.met.K.Ord.total g.met.K.Key.exact f at.out.items (union g.K.Ord.cmp f c.args.entries.items c.args.few.now) (into_iter_items at.entry-iterator) at.rest.now at.invariant.0 entry (into_iter_items c.next.new.self) parts.below.now parts.above.now c.push_merged.new.into.items found steps c.cut_slice-parts.ensures.below c.cut_slice-parts.ensures.found c.cut_slice-parts.ensures.above pushed,
+      merged_on g.met.K.Ord.total g.met.K.Key.exact f at.out.items (union g.K.Ord.cmp f c.args.entries.items c.args.few.now) (into_iter_items at.entry-iterator) at.rest.now at.invariant.0 entry (into_iter_items c.next.new.self) parts.below.now parts.above.now c.push_merged.new.into.items found steps c.cut_front-parts.ensures.below c.cut_front-parts.ensures.found c.cut_front-parts.ensures.above pushed,
       omega arith,
     )
 

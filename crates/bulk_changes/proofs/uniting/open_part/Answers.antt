@@ -6,8 +6,8 @@ use Rattle.map_model.proofs.Unions.{IsIncreasing-union}
 use Rattle.bulk_changes.proofs.Halves.{put_together, smaller}
 use Rattle.bulk_changes.proofs.uniting.open_part.Goals as goal
 
-pub planted-requires-clause-increasing : goal.planted-requires-clause-increasing
-planted-requires-clause-increasing g c =
+pub tree_of-requires-clause-increasing : goal.tree_of-requires-clause-increasing
+tree_of-requires-clause-increasing g c =
     let order = g.A.Key.Ord.cmp in
     let f = g.H.Resolve.resolved c.args.how.now in
     let entries = c.in-Entries.entries.items in

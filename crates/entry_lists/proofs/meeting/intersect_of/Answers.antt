@@ -1,4 +1,4 @@
-use Rattle.std.proofs.Common.{◌≡◌, [], ◌∷◌, ◌++◌, rules}
+use Rattle.std.proofs.Common.{◌≡◌, [], ◌∷◌, ◌++◌, sym}
 use Rattle.std.specs.declared.cmp.Ordering.TheVariants.{Less, Equal, Greater}
 use Rattle.map_model.specs.SetOperations.{intersect}
 use Rattle.std.proofs.lemmas.List.{nil_from_length}
@@ -10,28 +10,28 @@ pub loop-near-preserved-in-Less : goal.loop-near-preserved-in-Less
 loop-near-preserved-in-Less g c =
     let near = c.in-Some.near.now in
     let far = c.in-Some-split_first.far.now in
-    let left_is : c.loop-near.left.now ≡ near ∷ c.in-Some.others.now = search rules in
-    let right_is : c.loop-near.right.now ≡ far ∷ c.in-Some-split_first.rest.now = search rules in
-    let compared : g.K.Ord.cmp near.0 far.0 ≡ Less = search rules in
+    let left_is : c.loop-near.left.now ≡ near ∷ c.in-Some.others.now = c.in-Some.ensures.cases.0 in
+    let right_is : c.loop-near.right.now ≡ far ∷ c.in-Some-split_first.rest.now = c.in-Some-split_first.ensures.cases.0 in
+    let compared : g.K.Ord.cmp near.0 far.0 ≡ Less = sym c.in-Less.ensures in
     intersect_less g.met.K.Ord.total g.met.K.Key.exact near far c.in-Some.others.now c.in-Some-split_first.rest.now c.loop-near.left.now c.loop-near.right.now c.loop-near.out.items c.loop-near.out.items (intersect g.K.Ord.cmp (g.R.Resolve.resolved c.args.how.now) c.args.a.now c.args.b.now) left_is right_is (g.R.Resolve.resolved c.args.how.now) c.loop-near.invariant compared
 
 pub loop-near-preserved-in-Equal : goal.loop-near-preserved-in-Equal
 loop-near-preserved-in-Equal g c =
     let near = c.in-Some.near.now in
     let far = c.in-Some-split_first.far.now in
-    let left_is : c.loop-near.left.now ≡ near ∷ c.in-Some.others.now = search rules in
-    let right_is : c.loop-near.right.now ≡ far ∷ c.in-Some-split_first.rest.now = search rules in
-    let compared : g.K.Ord.cmp near.0 far.0 ≡ Equal = search rules in
-    let pushed : c.push_resolved.new.into.items ≡ c.loop-near.out.items ++ (near.0, g.R.Resolve.resolved c.args.how.now near.1 far.1) ∷ [] = search rules in
+    let left_is : c.loop-near.left.now ≡ near ∷ c.in-Some.others.now = c.in-Some.ensures.cases.0 in
+    let right_is : c.loop-near.right.now ≡ far ∷ c.in-Some-split_first.rest.now = c.in-Some-split_first.ensures.cases.0 in
+    let compared : g.K.Ord.cmp near.0 far.0 ≡ Equal = sym c.in-Equal.ensures in
+    let pushed : c.push_resolved.new.into.items ≡ c.loop-near.out.items ++ (near.0, g.R.Resolve.resolved c.args.how.now near.1 far.1) ∷ [] = c.in_ok-push_resolved-in-Equal.ensures in
     intersect_equal g.met.K.Ord.total g.met.K.Key.exact near far c.in-Some.others.now c.in-Some-split_first.rest.now c.loop-near.left.now c.loop-near.right.now c.loop-near.out.items c.push_resolved.new.into.items (intersect g.K.Ord.cmp (g.R.Resolve.resolved c.args.how.now) c.args.a.now c.args.b.now) left_is right_is (g.R.Resolve.resolved c.args.how.now) c.loop-near.invariant compared pushed
 
 pub loop-near-preserved : goal.loop-near-preserved
 loop-near-preserved g c =
     let near = c.in-Some.near.now in
     let far = c.in-Some-split_first.far.now in
-    let left_is : c.loop-near.left.now ≡ near ∷ c.in-Some.others.now = search rules in
-    let right_is : c.loop-near.right.now ≡ far ∷ c.in-Some-split_first.rest.now = search rules in
-    let compared : g.K.Ord.cmp near.0 far.0 ≡ Greater = search rules in
+    let left_is : c.loop-near.left.now ≡ near ∷ c.in-Some.others.now = c.in-Some.ensures.cases.0 in
+    let right_is : c.loop-near.right.now ≡ far ∷ c.in-Some-split_first.rest.now = c.in-Some-split_first.ensures.cases.0 in
+    let compared : g.K.Ord.cmp near.0 far.0 ≡ Greater = sym c.in-Greater.ensures in
     intersect_greater g.met.K.Ord.total g.met.K.Key.exact near far c.in-Some.others.now c.in-Some-split_first.rest.now c.loop-near.left.now c.loop-near.right.now c.loop-near.out.items c.loop-near.out.items (intersect g.K.Ord.cmp (g.R.Resolve.resolved c.args.how.now) c.args.a.now c.args.b.now) left_is right_is (g.R.Resolve.resolved c.args.how.now) c.loop-near.invariant compared
 
 pub returns : goal.returns

@@ -1,4 +1,0 @@
-use Rattle.bulk_ops.proofs.block.+reduce_next.Given as goal
-
-abbrev pub decreases-reduce_next : goal.decreases-reduce_next
-decreases-reduce_next g l = l.count

@@ -1,4 +1,0 @@
-use Rattle.bulk_ops.proofs.uncounted.planted.Given as goal
-
-abbrev pub ghosts-planted_counted : goal.ghosts-planted_counted
-ghosts-planted_counted g a = record { name = a.blank.name; parts = a.blank.parts }
