@@ -70,6 +70,20 @@ impl<A: Augment, L: Leaf<A::Key, A::Val>, S: BlockSize> MapOver<A, L, S> {
         Ok(MapOver { tree })
     }
 
+    /// The first entry whose base value passes; none exactly where no entry's does. It passes over each part whose fold fails the
+    /// test, so it takes time in O(height + B) where a fold passes exactly when some entry below it does. It takes no memory where
+    /// augmented values and the shares of keys and values take none.
+    pub fn first_where<T: AugTest<A>>(
+        &self,
+        alloc: Global,
+        test: &T,
+    ) -> Result<Option<(A::Key, A::Val)>, NoMemory>
+        ensures value { IfOk result (λ found. found ≡ select (aug_filter A.base_of (T.admits test.now) self.now.entries) 0) }
+        ensures succeeds { A.never_refuses → A.Key.never_refuses → A.Val.never_refuses → IsOk result }
+    {
+        aug_query::first_where(alloc, &self.tree, test)
+    }
+
     /// The image of the fold of the entries with keys from `lo` to `hi`, both included. It is met from images of stored folds and
     /// of single entries; no two augmented values are combined.
     pub fn aug_project<P: Project<A>>(

@@ -1,4 +1,5 @@
 pub mod Blocks
+pub mod Firsts
 pub mod Nodes
 pub mod Ranges
 pub mod Walks

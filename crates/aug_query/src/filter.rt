@@ -4,6 +4,7 @@ ghost use Rattle.map_model.specs.Balance.{IsBlockSize};
 ghost use Rattle.map_model.specs.Entries.{AllAbove, AllBelow, IsIncreasing};
 ghost use Rattle.map_model.specs.Fold.{aug_filter};
 
+use crate::passing::{entry_passes, fails_whole};
 use aug_monoid::{AugTest, Augment, Leaf, NoMemory, Share, Steps};
 use join_core::{Part, join, join2};
 use std::alloc::Global;
@@ -53,26 +54,13 @@ fn filter_block<A: Augment, L: Leaf<A::Key, A::Val>, T: AugTest<A>>(
         let Some(entry) = leaf.walk_next(&mut walk) else {
             unreachable!()
         };
-        let base = A::base(alloc, entry.key(), entry.val())?;
-        if !test.passes(&base) {
+        let passes = entry_passes::<A, T>(alloc, entry.key(), entry.val(), test)?;
+        if !passes {
             continue;
         }
         kept.push(entry.into_entry(alloc)?)?;
     }
     Ok(kept)
-}
-
-/// Whether no entry of a tree passes, as its stored fold shows.
-fn fails_whole<A: Augment, L: Leaf<A::Key, A::Val>, S: BlockSize, T: AugTest<A>>(
-    tree: &TreeOver<A, L, S>,
-    test: &T,
-) -> bool
-    ensures { result ≡ true → aug_filter A.base_of (T.admits test.now) tree.now.entries ≡ [] }
-{
-    match tree.aug() {
-        Some(fold) => !test.passes(fold),
-        None => true,
-    }
 }
 
 /// The map of the entries of a tree of one block that pass: the tree itself where all do.
@@ -112,8 +100,8 @@ fn filter_node<A: Augment, L: Leaf<A::Key, A::Val>, S: BlockSize, T: AugTest<A>,
     requires whole { length front.now.entries + length back.now.entries + 1 ≡ length tree.now.entries → tree.now.entries ≡ front.now.entries ++ (key.now, val.now) ∷ back.now.entries }
     ensures { IfOk result (λ kept. kept.entries ≡ front.now.entries ++ (if T.admits test.now (A.base_of key.now val.now) then (key.now, val.now) ∷ back.now.entries else back.now.entries)) }
 {
-    let base = A::base(alloc, key, val)?;
-    if !test.passes(&base) {
+    let passes = entry_passes::<A, T>(alloc, key, val, test)?;
+    if !passes {
         return join2(alloc, front, back, steps);
     }
     if front.size() + back.size() + 1 == tree.size() {

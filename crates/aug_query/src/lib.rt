@@ -5,14 +5,17 @@
 #![tactic(auto)]
 
 mod filter;
+mod finding;
 mod folds;
 mod neighbours;
 mod parts;
+mod passing;
 mod places;
 mod project;
 mod range;
 
 pub use filter::aug_filter;
+pub use finding::first_where;
 pub use folds::{aug_left, aug_range, aug_right};
 pub use neighbours::{next, prev};
 pub use parts::{above, at_least, below, slice};

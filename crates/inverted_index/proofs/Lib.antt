@@ -4,6 +4,7 @@ pub mod OneMore
 pub mod Gathering
 pub mod Ranks
 pub mod Ranked
+pub mod ByWeight
 pub mod Tallies
 pub mod Texts
 pub mod Found

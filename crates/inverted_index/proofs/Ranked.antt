@@ -38,7 +38,7 @@ order_in a (b ∷ s) above up =
       | false ↦ λ is. (all-ranked_in (λ e. rank_cmp b e ≡ Less) a s (after a.0 a.1 b.0 b.1 is) up.0, order_in a s above.1 up.1)
     ] refl
 
-ranked_order : (m : List (ℕ × ℕ)) → IsIncreasing nat_cmp m → IsStrictlySortedBy rank_cmp (ranked m)
+pub ranked_order : (m : List (ℕ × ℕ)) → IsIncreasing nat_cmp m → IsStrictlySortedBy rank_cmp (ranked m)
 unfolding IsStrictlySortedBy
 ranked_order [] rises = tt
 ranked_order (a ∷ m) rises = order_in a (ranked m) (all-ranked (λ e. nat_cmp a.0 e.0 ≡ Less) m rises.0) (ranked_order m rises.1)

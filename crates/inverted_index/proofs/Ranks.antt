@@ -1,40 +1,30 @@
 -- The heaviest of some documents, and what is left behind it.
-use Rattle.std.proofs.Common.{◌≡◌, ℕ, zero, suc, ◌+◌, ◌-◌, ◌^◌, ◌<◌, ◌≤◌, Bool, true, false, cond, List, [], ◌∷◌, ◌++◌, Option, Some, None, take, length, refl, sym, ap, ap₂, ◌∙◌, append_assoc, append-nil, subst, Result, arith}
+use Rattle.std.proofs.Common.{◌≡◌, ℕ, zero, suc, ◌+◌, ◌-◌, ◌^◌, ◌<◌, ◌≤◌, Bool, true, false, cond, List, [], ◌∷◌, ◌++◌, Option, Some, None, take, refl, sym, ap, ap₂, ◌∙◌, append_assoc, append-nil, subst, arith}
 use Rattle.std.specs.declared.cmp.Ordering.TheVariants.{Less, Equal, Greater}
 use Rattle.std.specs.List.{AllByRecursion, filter}
-use Rattle.std.specs.Option.{IsNone, MatchOption}
+use Rattle.std.specs.Option.{IsNone}
 use Rattle.std.specs.Prelude.{◌↔◌}
-use Rattle.std.specs.Result.{IfOk}
 use Rattle.std.specs.Ordering.{nat_cmp, is_eq, is_ne}
-use Rattle.std.proofs.lemmas.Result.{IfOk-weaker}
 use Rattle.std.proofs.lemmas.Cmp.{nat_cmp_total, tied_itself}
 use Rattle.std.proofs.lemmas.Bool.Decides.{nat_tests}
 use Rattle.map_model.specs.Entries.{AllAbove, IsIncreasing, drop_key, lookup}
-use Rattle.map_model.specs.Fold.{fold_of}
+use Rattle.map_model.specs.Fold.{aug_filter, fold_of}
+use Rattle.map_model.specs.Parts.{select}
 use Rattle.aug_monoid.specs.Totals.{totals_base, totals_combine, totals_unit}
 use Rattle.aug_monoid.specs.declared.totals.Totals.{Totals}
 use Rattle.map_model.proofs.Around.{drop_key-around_equal}
-use Rattle.map_model.proofs.Cuts.{length-around}
 use Rattle.map_model.proofs.Keys.{around}
 use Rattle.map_model.proofs.Lookups.{first_found, lookup-behind}
 use Rattle.map_model.proofs.NatKeys.{lt_from_less}
 use Rattle.inverted_index.specs.Queries.{hits_of, ranked, ranked_in, ranks_before}
 use Rattle.inverted_index.specs.declared.hit.Hit.{Hit}
-use Rattle.inverted_index.specs.Ranks.{AreBelow, AreLow, IsFirst, Leads}
+use Rattle.inverted_index.specs.Ranks.{AreBelow, AreLow, IsFirst, Leads, weighs}
 
 -- ---- what holds of each element
-
-pub all-front : {X : Type 0} (F : X → Type 0) (l r : List X) → AllByRecursion F (l ++ r) → AllByRecursion F l
-all-front F [] r a = tt
-all-front F (x ∷ l) r a = (a.0, all-front F l r a.1)
 
 pub all-back : {X : Type 0} (F : X → Type 0) (l r : List X) → AllByRecursion F (l ++ r) → AllByRecursion F r
 all-back F [] r a = a
 all-back F (x ∷ l) r a = all-back F l r a.1
-
-pub all-join : {X : Type 0} (F : X → Type 0) (l r : List X) → AllByRecursion F l → AllByRecursion F r → AllByRecursion F (l ++ r)
-all-join F [] r a b = b
-all-join F (x ∷ l) r a b = (a.0, all-join F l r a.1 b)
 
 -- ---- ranks
 
@@ -91,10 +81,6 @@ pub greatest_above : (m : List (ℕ × ℕ)) (g : ℕ) → AreLow m → (totals_
 greatest_above [] g low h = tt
 greatest_above (e ∷ m) g low h = (omega (arith, low.0, h), greatest_above m g low.1 (omega (arith, h)))
 
-pub greatest_below : (m : List (ℕ × ℕ)) (g : ℕ) → AreLow m → (totals_fold m).greatest < g → AreBelow g m
-greatest_below [] g low h = tt
-greatest_below (e ∷ m) g low h = (omega (arith, low.0, h), greatest_below m g low.1 (omega (arith, h)))
-
 -- some document has it
 below_greatest : (m : List (ℕ × ℕ)) (g : ℕ) → 0 < g → AreBelow g m → (totals_fold m).greatest < g
 below_greatest [] g h less = h
@@ -104,33 +90,36 @@ pub some_greatest : (m : List (ℕ × ℕ)) → (m ≡ [] → ⊥) → AreBelow 
 some_greatest [] filled less = filled refl
 some_greatest (e ∷ m) filled less = let bad = below_greatest (e ∷ m) (totals_fold (e ∷ m)).greatest (omega (arith, less.0)) less in omega (arith, bad)
 
--- ---- a first document in a part
+-- ---- the first of so much weight
 
--- in the front
-pub first_front : (m l r : List (ℕ × ℕ)) (g d : ℕ) → m ≡ l ++ r → IsFirst l g d → IsFirst m g d
-first_front m l r g d is first = record {
-  front = first.front;
-  weight = first.weight;
-  back = first.back ++ r;
-  split = is ∙ ap (λ x. x ++ r) first.split ∙ append_assoc first.front ((d, first.weight) ∷ first.back) r;
-  less = first.less;
-  heavy = first.heavy;
-}
+abbrev pub heavy : ℕ → List (ℕ × ℕ) → List (ℕ × ℕ)
+heavy least m = aug_filter (λ (doc weight : ℕ). totals_base weight) (weighs least) m
 
--- in the middle
-pub first_middle : (m l r : List (ℕ × ℕ)) (g d w : ℕ) → m ≡ l ++ (d, w) ∷ r → AreBelow g l → g ≤ w → IsFirst m g d
-first_middle m l r g d w is less heavy = record { front = l; weight = w; back = r; split = is; less = less; heavy = heavy }
+at_least : (least weight : ℕ) → weight ≤ 2 ^ 64 - 1 → weighs least (totals_base weight) ≡ true → least ≤ weight
+at_least least weight low is = grind (arith, nat_tests)
 
--- at the end
-pub first_back : (m l r : List (ℕ × ℕ)) (g d k w : ℕ) → m ≡ l ++ (k, w) ∷ r → AreBelow g l → w < g → IsFirst r g d → IsFirst m g d
-first_back m l r g d k w is less light first = record {
-  front = l ++ (k, w) ∷ first.front;
-  weight = first.weight;
-  back = first.back;
-  split = is ∙ ap (λ x. l ++ (k, w) ∷ x) first.split ∙ sym (append_assoc l ((k, w) ∷ first.front) ((d, first.weight) ∷ first.back));
-  less = all-join (λ e. e.1 < g) l ((k, w) ∷ first.front) less (light, first.less);
-  heavy = first.heavy;
-}
+under : (least weight : ℕ) → weight ≤ 2 ^ 64 - 1 → weighs least (totals_base weight) ≡ false → weight < least
+under least weight low is = grind (arith, nat_tests)
+
+pub first_heavy : (m : List (ℕ × ℕ)) (least : ℕ) (found : ℕ × ℕ) → AreLow m → select (heavy least m) 0 ≡ Some found → IsFirst m least found.0
+first_heavy [] least found low h = cc
+first_heavy (e ∷ m) least found low h =
+    elim (weighs least (totals_base e.1)) as (λ b. weighs least (totals_base e.1) ≡ b → select (cond b (e ∷ heavy least m) (heavy least m)) 0 ≡ Some found → IsFirst (e ∷ m) least found.0) [
+      | true ↦ λ is here.
+          let same : e ≡ found = cc in
+          record { front = []; weight = found.1; back = m; split = ap (λ x. x ∷ m) same; less = tt; heavy = subst (λ x. least ≤ x.1) same (at_least least e.1 low.0 is) }
+      | false ↦ λ is later.
+          let rest = first_heavy m least found low.1 later in
+          record { front = e ∷ rest.front; weight = rest.weight; back = rest.back; split = ap (λ x. e ∷ x) rest.split; less = (under least e.1 low.0 is, rest.less); heavy = rest.heavy }
+    ] refl h
+
+pub none_heavy : (m : List (ℕ × ℕ)) (least : ℕ) → AreLow m → select (heavy least m) 0 ≡ None → AreBelow least m
+none_heavy [] least low h = tt
+none_heavy (e ∷ m) least low h =
+    elim (weighs least (totals_base e.1)) as (λ b. weighs least (totals_base e.1) ≡ b → select (cond b (e ∷ heavy least m) (heavy least m)) 0 ≡ None → AreBelow least (e ∷ m)) [
+      | true ↦ λ is here. cc
+      | false ↦ λ is later. (under least e.1 low.0 is, none_heavy m least low.1 later)
+    ] refl h
 
 pub low_fits : (m : List (ℕ × ℕ)) → IsIncreasing nat_cmp m → ((q w : ℕ) → lookup nat_cmp m q ≡ Some w → w ≤ 2 ^ 64 - 1) → AreLow m
 low_fits [] s h = tt
@@ -143,21 +132,6 @@ low_fits (e ∷ m) s h = (h e.0 e.1 (first_found nat_cmp_total e m), low_fits m 
           | Equal ↦ λ ties. absurd (let bad : ◌≡◌ {A = Option ℕ} None (Some w) = sym (lookup-behind nat_cmp_total e m q s ties) ∙ is in cc)
           | Greater ↦ λ _. is
         ] refl
-
--- the sides of an entry
-pub low_left : (es l r : List (ℕ × ℕ)) (k v : ℕ) → es ≡ l ++ (k, v) ∷ r → AreLow es → AreLow l
-low_left es l r k v is low = let Low : List (ℕ × ℕ) → Type 0 = λ m. AreLow m in all-front (λ e. e.1 ≤ 2 ^ 64 - 1) l ((k, v) ∷ r) (subst Low is low)
-
-pub low_right : (es l r : List (ℕ × ℕ)) (k v : ℕ) → es ≡ l ++ (k, v) ∷ r → AreLow es → AreLow r
-low_right es l r k v is low = let Low : List (ℕ × ℕ) → Type 0 = λ m. AreLow m in (all-back (λ e. e.1 ≤ 2 ^ 64 - 1) l ((k, v) ∷ r) (subst Low is low)).1
-
--- what the right side answers where the left and the middle are below
-pub right_answers : {E : Type 0} (answer : Result (Option ℕ) E) (es l r : List (ℕ × ℕ)) (g k v : ℕ) → es ≡ l ++ (k, v) ∷ r → AreBelow g l → v < g → IfOk answer (λ doc. MatchOption doc (AreBelow g r) (IsFirst r g)) → IfOk answer (λ doc. MatchOption doc (AreBelow g es) (IsFirst es g))
-right_answers answer es l r g k v is less light h = IfOk-weaker answer (λ doc. MatchOption doc (AreBelow g r) (IsFirst r g)) (λ doc. MatchOption doc (AreBelow g es) (IsFirst es g)) (whole) h
-  where
-    whole : (doc : Option ℕ) → MatchOption doc (AreBelow g r) (IsFirst r g) → MatchOption doc (AreBelow g es) (IsFirst es g)
-    whole None below = let Below : List (ℕ × ℕ) → Type 0 = λ m. AreBelow g m in subst Below (sym is) (all-join (λ e. e.1 < g) l ((k, v) ∷ r) less (light, below))
-    whole (Some d) first = first_back es l r g d k v is less light first
 
 pub heaviest_leads : (es : List (ℕ × ℕ)) (g d : ℕ) → IsIncreasing nat_cmp es → AreLow es → g ≡ (totals_fold es).greatest → IsFirst es g d → ranked es ≡ (d, g) ∷ ranked (drop_key nat_cmp es d)
 heaviest_leads es g d rises low is first = leads es g d rises (greatest_above es g low (omega (arith, is))) first
@@ -190,12 +164,6 @@ pub top_end : (all hits : List Hit) (k i : ℕ) (es : List (ℕ × ℕ)) → all
 top_end all hits k i es so_far enough =
     let none : k - i ≡ 0 = omega arith in
     sym (so_far ∙ ap (λ n. hits ++ hits_of (take n (ranked es))) none ∙ append-nil hits)
-
-pub left_shorter : (es l r : List (ℕ × ℕ)) (k v : ℕ) → es ≡ l ++ (k, v) ∷ r → length l < length es
-left_shorter es l r k v is = let e : length es ≡ length l + length r + 1 = ap length is ∙ length-around l (k, v) r in omega arith
-
-pub right_shorter : (es l r : List (ℕ × ℕ)) (k v : ℕ) → es ≡ l ++ (k, v) ∷ r → length r < length es
-right_shorter es l r k v is = let e : length es ≡ length l + length r + 1 = ap length is ∙ length-around l (k, v) r in omega arith
 
 -- some document has the greatest weight
 pub no_greatest : (totals : Totals) (m : List (ℕ × ℕ)) → (IsNone (Some totals) ↔ (m ≡ [])) → totals ≡ totals_fold m → AreBelow totals.greatest m → ⊥

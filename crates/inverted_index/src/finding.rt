@@ -118,11 +118,10 @@ pub(crate) fn joined<R: Threads + Sync, G: Gate>(
     Ok(found)
 }
 
-/// The documents of a map with their weights.
-pub(crate) fn hits_of(alloc: Global, weights: &Weights) -> Result<Vec<Hit>, NoMemory>
-    ensures { IfOk result (λ hits. hits.items ≡ hits_of weights.now.entries) }
+/// Documents with their weights as hits, in their order.
+pub(crate) fn as_hits(alloc: Global, entries: &[(u64, u64)]) -> Result<Vec<Hit>, NoMemory>
+    ensures { IfOk result (λ hits. hits.items ≡ hits_of entries.now) }
 {
-    let entries = weights.to_vec(alloc)?;
     let hits = entries
         .iter()
         .map(|entry| Hit {
@@ -131,4 +130,12 @@ pub(crate) fn hits_of(alloc: Global, weights: &Weights) -> Result<Vec<Hit>, NoMe
         })
         .collect(alloc)?;
     Ok(hits)
+}
+
+/// The documents of a map with their weights.
+pub(crate) fn hits_of(alloc: Global, weights: &Weights) -> Result<Vec<Hit>, NoMemory>
+    ensures { IfOk result (λ hits. hits.items ≡ hits_of weights.now.entries) }
+{
+    let entries = weights.to_vec(alloc)?;
+    as_hits(alloc, &entries)
 }

@@ -12,10 +12,12 @@ mod marking;
 mod postings;
 mod queries;
 mod ranking;
+mod sorting;
 mod table;
 mod tally;
 mod term;
 mod text;
+mod weighing;
 
 pub use adding::Added;
 pub use cross::index_crosses;

@@ -89,8 +89,8 @@ impl Index {
         hits_of(alloc, &found)
     }
 
-    /// The first `k` documents that have a term, by falling weight, and by rising number where weights are equal. For n
-    /// documents that have the term it takes time linear in k * log n.
+    /// The first `k` documents that have a term, by falling weight, and by rising number where weights are equal. Of n documents
+    /// that have the term it takes time in O(min(k, n) log n).
     pub fn top(&self, alloc: Global, k: u64, term: &Term) -> Result<Vec<Hit>, NoMemory>
         ensures hits { IfOk result (λ hits. hits.items ≡ hits_of (top self.now k term.now)) }
         ensures ranks { IfOk result (λ hits. AreTop (having self.now term.now) k hits.items) }

@@ -1,5 +1,5 @@
 //! Documents by falling weight.
-ghost use Rattle.std.specs.Prelude.{◌≡◌, ◌<◌, IfOk, IsTrue, MatchOption, take};
+ghost use Rattle.std.specs.Prelude.{◌≡◌, ◌<◌, IfOk, MatchOption, take};
 ghost use Rattle.std.specs.Ordering.{nat_cmp};
 ghost use Rattle.map_model.specs.Entries.{IsIncreasing};
 ghost use Rattle.inverted_index.specs.Queries.{hits_of, ranked};
@@ -7,41 +7,25 @@ ghost use Rattle.inverted_index.specs.Ranks.{AreBelow, AreLow, IsFirst, Leads};
 
 use crate::hit::Hit;
 use crate::postings::Weights;
+use crate::sorting::{first_hits, sort_by_weight};
+use crate::weighing::WeightsFrom;
 use aug_monoid::{NoMemory, Share, Steps};
 use std::alloc::Global;
 use std::sync::ledger::{Blank, Ledger};
 
-// Whether no document has so much weight, by the greatest weight.
-#[tactic(auto, using(crate::proofs::Ranks::greatest_below))]
-fn lacks(weights: &Weights, least: u64) -> bool
-    requires low { AreLow weights.now.entries }
-    ensures { IsTrue result → AreBelow least weights.now.entries }
-{
-    match weights.aug() {
-        Some(totals) => totals.greatest < least,
-        None => true,
-    }
-}
+/// So many documents are sorted in about the time that one takes to be found and removed.
+const SORTED_A_REMOVAL: u64 = 8;
 
 // The first document whose weight is at least `least`, found by going down to it.
-#[tactic(auto, using(crate::proofs::Ranks::low_left, crate::proofs::Ranks::low_right, crate::proofs::Ranks::right_answers, crate::proofs::Ranks::first_front, crate::proofs::Ranks::first_middle))]
+#[tactic(auto, using(crate::proofs::Ranks::first_heavy, crate::proofs::Ranks::none_heavy))]
 fn first_of(alloc: Global, weights: &Weights, least: u64) -> Result<Option<u64>, NoMemory>
     requires low { AreLow weights.now.entries }
     ensures { IfOk result (λ doc. MatchOption doc (AreBelow least weights.now.entries) (IsFirst weights.now.entries least)) }
 {
-    if lacks(weights, least) {
-        return Ok(None);
+    match weights.first_where(alloc, &WeightsFrom { least })? {
+        Some(entry) => Ok(Some(entry.0)),
+        None => Ok(None),
     }
-    let Some(sides) = weights.expose(alloc)? else {
-        return Ok(None);
-    };
-    if let Some(doc) = first_of(alloc, &sides.left, least)? {
-        return Ok(Some(doc));
-    }
-    if least <= sides.val {
-        return Ok(Some(sides.key));
-    }
-    first_of(alloc, &sides.right, least)
 }
 
 // The first document of the greatest weight.
@@ -61,10 +45,9 @@ fn heaviest(alloc: Global, weights: &Weights) -> Result<Option<Hit>, NoMemory>
     }
 }
 
-/// The first `k` documents by falling weight, and by rising number where weights are equal. Each takes time linear in the
-/// height.
+// The first `k` documents by falling weight, one by one.
 #[tactic(auto, using(crate::proofs::Ranks::low_dropped, crate::proofs::Ranks::top_more, crate::proofs::Ranks::top_done, crate::proofs::Ranks::top_end))]
-pub(crate) fn top<C: Ledger>(
+fn top_by_removals<C: Ledger>(
     alloc: Global,
     weights: &Weights,
     k: u64,
@@ -87,4 +70,35 @@ pub(crate) fn top<C: Ledger>(
         hits.push(hit)?;
     }
     Ok(hits)
+}
+
+// The first `k` documents by falling weight, of all when they are sorted.
+fn top_by_sorting(alloc: Global, weights: &Weights, k: u64) -> Result<Vec<Hit>, NoMemory>
+    ensures { IfOk result (λ hits. hits.items ≡ hits_of (take k (ranked weights.now.entries))) }
+{
+    let _number = weights.size();
+    let mut entries = weights.to_vec(alloc)?;
+    sort_by_weight(alloc, entries.as_mut_slice())?;
+    first_hits(alloc, &entries, k)
+}
+
+/// The first `k` documents by falling weight, and by rising number where weights are equal. Of n documents it takes time in
+/// O(min(k, n) log n).
+pub(crate) fn top<C: Ledger>(
+    alloc: Global,
+    weights: &Weights,
+    k: u64,
+    blank: Blank,
+) -> Result<Vec<Hit>, NoMemory>
+    requires name { blank.name ≡ C.name }
+    requires parts { blank.parts ≡ C.parts }
+    requires some { 0 < blank.parts }
+    requires low { AreLow weights.now.entries }
+    ensures { IfOk result (λ hits. hits.items ≡ hits_of (take k (ranked weights.now.entries))) }
+{
+    if weights.size() / SORTED_A_REMOVAL <= k {
+        top_by_sorting(alloc, weights, k)
+    } else {
+        top_by_removals::<C>(alloc, weights, k, blank)
+    }
 }

@@ -1,7 +1,7 @@
 use Rattle.std.proofs.Common.{refl, take, arith}
 use Rattle.inverted_index.specs.Queries.{hits_of, ranked}
 use Rattle.inverted_index.proofs.Ranks.{leads_some, low_dropped, top_more}
-use Rattle.inverted_index.proofs.ranking.top.Goals as goal
+use Rattle.inverted_index.proofs.ranking.top_by_removals.Goals as goal
 
 pub same-steps-in-loop-place-2 : goal.same-steps-in-loop-place-2
 same-steps-in-loop-place-2 g c = refl

@@ -1,7 +1,7 @@
 use Rattle.std.proofs.Common.{sym, ap, ◌∙◌}
 use Rattle.std.proofs.lemmas.Bool.{not-true}
 use Rattle.map_model.proofs.AugFilter.{aug_filter-none}
-use Rattle.aug_query.proofs.filter.fails_whole.Goals as goal
+use Rattle.aug_query.proofs.passing.fails_whole.Goals as goal
 
 pub returns-in-Some : goal.returns-in-Some
 returns-in-Some g c = λ fails.

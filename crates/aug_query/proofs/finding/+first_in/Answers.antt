@@ -1,0 +1,29 @@
+use Rattle.std.proofs.Common.{◌≡◌, [], Some, sym, ap, ◌∙◌}
+use Rattle.std.specs.List.{filter}
+use Rattle.std.proofs.lemmas.Result.{IfOk-weaker}
+use Rattle.aug_query.proofs.Firsts.{first_here, first_left, first_right, none_first}
+use Rattle.aug_query.proofs.finding.+first_in.Goals as goal
+
+pub returns-in-Some-clause-value : goal.returns-in-Some-clause-value
+returns-in-Some-clause-value g t c =
+    let p = λ (e : g.row.A-Key.Denot × g.row.A-Val.Denot). g.T.AugTest.admits c.args.test.now (g.A.Augment.base_of e.0 e.1) in
+    let left = c.in-Node.left.now.entries in
+    let e : g.row.A-Key.Denot × g.row.A-Val.Denot = (c.in-Node.key.now, c.in-Node.val.now) in
+    sym (first_left p c.args.part.tree.now.entries left e c.in-Node.right.now.entries c.in-Node.ensures.top.entries_are c.in-Some.entry (sym c.in_ok-entry-in-Node.ensures.value ∙ c.in-Some.is))
+
+pub returns-then-branch-clause-value : goal.returns-then-branch-clause-value
+returns-then-branch-clause-value g t c =
+    let p = λ (e : g.row.A-Key.Denot × g.row.A-Val.Denot). g.T.AugTest.admits c.args.test.now (g.A.Augment.base_of e.0 e.1) in
+    let left = c.in-Node.left.now.entries in
+    let e : g.row.A-Key.Denot × g.row.A-Val.Denot = (c.in-Node.key.now, c.in-Node.val.now) in
+    let none : filter p left ≡ [] = none_first (filter p left) (sym c.in_ok-entry-in-Node.ensures.value ∙ c.in-None.is) in
+    ap Some c.in_ok-share_entry-in-None.ensures.value ∙ sym (first_here p c.args.part.tree.now.entries left e c.in-Node.right.now.entries c.in-Node.ensures.top.entries_are none (sym c.in_ok-entry_passes-in-None.ensures.value ∙ c.if-branch.true))
+
+pub returns-else-branch-clause-value : goal.returns-else-branch-clause-value
+returns-else-branch-clause-value g t c =
+    let p = λ (e : g.row.A-Key.Denot × g.row.A-Val.Denot). g.T.AugTest.admits c.args.test.now (g.A.Augment.base_of e.0 e.1) in
+    let left = c.in-Node.left.now.entries in
+    let e : g.row.A-Key.Denot × g.row.A-Val.Denot = (c.in-Node.key.now, c.in-Node.val.now) in
+    let none : filter p left ≡ [] = none_first (filter p left) (sym c.in_ok-entry-in-Node.ensures.value ∙ c.in-None.is) in
+    let behind = first_right p c.args.part.tree.now.entries left e c.in-Node.right.now.entries c.in-Node.ensures.top.entries_are none (sym c.in_ok-entry_passes-in-None.ensures.value ∙ c.if-branch.false) in
+    IfOk-weaker c.first_in-in-None.result _ _ (λ x h. h ∙ sym behind) c.first_in-in-None.ensures.value
