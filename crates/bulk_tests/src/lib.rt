@@ -4,6 +4,8 @@
 #[cfg(test)]
 mod gate_tests;
 #[cfg(test)]
+mod given_up_tests;
+#[cfg(test)]
 mod refusal_tests;
 #[cfg(test)]
 mod runs;

@@ -1,8 +1,8 @@
 //! Maps of multiples, and their entries. Where memory is refused, a test ends here.
 ghost use Rattle.map_model.specs.Balance.{IsBlockSize};
 
-use aug_monoid::{Augment, NoMemory, SumMax};
-use batch_ops::build;
+use aug_monoid::{Augment, Leaf, NoMemory, SumMax};
+use batch_ops::{build, build_alone};
 use fork_join::{Cut, FreeGate};
 use leaf_blocks::PlainLeaf;
 use std::alloc::Global;
@@ -11,7 +11,9 @@ use std::process::Abort;
 use std::thread::Threads;
 use tree_base::Tree;
 
-pub(crate) type Sums<const B: usize> = Tree<SumMax<u64>, PlainLeaf<u64, u64>, B>;
+pub(crate) type SumsOver<L, const B: usize> = Tree<SumMax<u64>, L, B>;
+
+pub(crate) type Sums<const B: usize> = SumsOver<PlainLeaf<u64, u64>, B>;
 
 /// The multiples of a step from a number on and below another.
 #[derive(Clone, Copy, Debug)]
@@ -58,25 +60,37 @@ impl Multiples {
         let pairs = self.falling(rt, alloc);
         build(rt, alloc, &FreeGate, cut, pairs.as_slice()).expect(rt, "memory")
     }
+
+    /// The same in any blocks, built on one thread.
+    pub(crate) fn tree_over<R: Abort, L: Leaf<u64, u64>, const B: usize>(
+        self,
+        rt: &R,
+        alloc: Global,
+    ) -> SumsOver<L, B>
+        requires { IsBlockSize B }
+    {
+        let pairs = self.falling(rt, alloc);
+        build_alone(alloc, pairs.as_slice()).expect(rt, "memory")
+    }
 }
 
 /// Asserts that a map has these entries.
-pub(crate) fn assert_has<R: Abort, A: Augment<Key = u64, Val = u64>, const B: usize>(
-    rt: &R,
-    alloc: Global,
-    tree: &Tree<A, PlainLeaf<u64, u64>, B>,
-    wanted: &[(u64, u64)],
-) {
+pub(crate) fn assert_has<
+    R: Abort,
+    A: Augment<Key = u64, Val = u64>,
+    L: Leaf<u64, u64>,
+    const B: usize,
+>(rt: &R, alloc: Global, tree: &Tree<A, L, B>, wanted: &[(u64, u64)]) {
     let mut entries = Vec::new(alloc);
     tree.push_entries(alloc, &mut entries).expect(rt, "memory");
     assert_eq!(rt; entries.as_slice(), wanted);
 }
 
 /// Asserts that a map, which is dropped, was made and has these entries.
-pub(crate) fn assert_made<R: Abort, const B: usize>(
+pub(crate) fn assert_made<R: Abort, L: Leaf<u64, u64>, const B: usize>(
     rt: &R,
     alloc: Global,
-    tree: Result<Sums<B>, NoMemory>,
+    tree: Result<SumsOver<L, B>, NoMemory>,
     wanted: &[(u64, u64)],
 ) {
     assert_has(rt, alloc, &tree.expect(rt, "memory"), wanted);

@@ -79,6 +79,17 @@ fn built<R: Threads + Sync>(rt: &R, alloc: Global) -> Result<(u64, bool), NoMemo
     Ok((map.size(), gate.was_met()))
 }
 
+/// A map that is given up.
+fn united_into<R: Threads + Sync>(rt: &R, alloc: Global) -> Result<(u64, bool), NoMemory> {
+    let a = map_of(rt, alloc, 2)?;
+    let b = map_of(rt, alloc, 3)?;
+    let list = b.to_vec(alloc)?;
+    let _size = b.size(); // for the proof alone: keys rise
+    let gate = Meeting::new();
+    let map = a.union_into(rt, alloc, &gate, Cut::new(2, 1), &list, &First)?;
+    Ok((map.size(), gate.was_met()))
+}
+
 fn intersected<R: Threads + Sync>(rt: &R, alloc: Global) -> Result<(u64, bool), NoMemory> {
     let a = map_of(rt, alloc, 2)?;
     let b = map_of(rt, alloc, 3)?;
@@ -112,6 +123,7 @@ fn reduced<R: Threads + Sync>(rt: &R, alloc: Global) -> Result<(u64, bool), NoMe
 #[test]
 fn the_halves_of_each_call_meet(rt: HostRuntime) -> Result<(), Fail> {
     assert_eq!(rt; built(&rt, rt.alloc())?, (30_000, true));
+    assert_eq!(rt; united_into(&rt, rt.alloc())?, (40_000, true));
     assert_eq!(rt; intersected(&rt, rt.alloc())?, (10_000, true));
     assert_eq!(rt; subtracted(&rt, rt.alloc())?, (20_000, true));
     assert_eq!(rt; filtered(&rt, rt.alloc())?, (30_000, true));

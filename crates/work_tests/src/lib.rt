@@ -12,7 +12,13 @@ mod folds;
 #[cfg(test)]
 mod forks;
 #[cfg(test)]
+mod given_up;
+#[cfg(test)]
+mod in_place;
+#[cfg(test)]
 mod sums;
+#[cfg(test)]
+mod tracked;
 #[cfg(test)]
 mod unions;
 #[cfg(test)]
