@@ -104,6 +104,12 @@ fn assert_parts<R: Abort, L: Leaf<u64, u64>, const B: usize>(
 ) {
     let passing = map.aug_filter(alloc, &AtLeast { bound: 40 });
     assert_made(rt, alloc, passing, &[(4, 40), (5, 50)]);
+    assert_entry(
+        rt,
+        map.first_where(alloc, &AtLeast { bound: 34 }),
+        Some((3, 34)),
+    );
+    assert_entry(rt, map.first_where(alloc, &AtLeast { bound: 51 }), None);
     assert_made(rt, alloc, map.below(alloc, &4), &[(1, 10), (3, 34)]);
     assert_made(rt, alloc, map.above(alloc, &4), &[(5, 50)]);
     assert_made(rt, alloc, map.slice(alloc, &3, &4), &[(3, 34), (4, 40)]);
