@@ -1,5 +1,5 @@
 //! Maps taken apart and put together.
-ghost use Rattle.std.specs.Prelude.{◌≡◌, ◌+◌, ◌*◌, ◌<◌, ◌≤◌, ◌↔◌, [], ◌∷◌, ◌++◌, IfOk, IfSome, IsNone, length, max};
+ghost use Rattle.std.specs.Prelude.{◌≡◌, ℕ, ◌+◌, ◌*◌, ◌^◌, ◌<◌, ◌≤◌, ◌↔◌, [], ◌∷◌, ◌++◌, IfOk, IfSome, IsNone, length, max};
 ghost use Rattle.map_model.specs.Balance.{IsBalanced, weight};
 ghost use Rattle.map_model.specs.Entries.{AllAbove, AllBelow, IsBefore, above, below, lookup};
 
@@ -71,7 +71,8 @@ impl<A: Augment, L: Leaf<A::Key, A::Val>, S: BlockSize> MapOver<A, L, S> {
         Ok(MapOver { tree })
     }
 
-    /// The entries below a key, the value at it, and the entries above it. Its time is linear in the height.
+    /// The entries below a key, the value at it, and the entries above it. Its time is linear in the height: where
+    /// `(3/4)^n * (size + 1)` is at most B, it takes at most `(2 * height + 6 * n + 1) * (4 * B + 4) + L::FIND` steps.
     pub fn split<C: Ledger>(
         &self,
         alloc: Global,
@@ -81,6 +82,7 @@ impl<A: Augment, L: Leaf<A::Key, A::Val>, S: BlockSize> MapOver<A, L, S> {
         ensures below { IfOk result (λ parts. parts.below.entries ≡ below A.Key.cmp self.now.entries key.now) }
         ensures found { IfOk result (λ parts. parts.found ≡ lookup A.Key.cmp self.now.entries key.now) }
         ensures above { IfOk result (λ parts. parts.above.entries ≡ above A.Key.cmp self.now.entries key.now) }
+        ensures cost { (n : ℕ) → 3 ^ n * weight self.now.entries ≤ 4 ^ n * S.SIZE → steps.new ≤ steps.old + ((2 * self.now.height + 6 * n + 1) * (4 * S.SIZE + 4) + L.FIND) }
     {
         let parts = tree_split::split(alloc, &self.tree, key, steps)?;
         Ok(PartsOver {

@@ -1,85 +1,60 @@
 //! Join: two trees and an entry between them.
-ghost use Rattle.std.specs.Prelude.{◌≡◌, ◌+◌, ◌*◌, ◌<◌, ◌≤◌, ◌∷◌, ◌++◌, IfOk};
+ghost use Rattle.std.specs.Prelude.{◌≡◌, ℕ, ◌+◌, ◌*◌, ◌<◌, ◌≤◌, ◌∷◌, ◌++◌, IfOk};
+ghost use Rattle.join_core.specs.Levels.{IsWithinLevels};
+ghost use Rattle.join_core.specs.Sides.{beside};
 ghost use Rattle.map_model.specs.Balance.{weight};
 ghost use Rattle.map_model.specs.Entries.{AllAbove, AllBelow, IsIncreasing};
 ghost use Rattle.tree_base.specs.Shape.{link_cost};
 
 use crate::owners::Part;
+use crate::sides::{Side, link_beside, sides_of};
 use crate::sizes::{are_balanced, are_small, weight_of};
-use crate::turns::{repair_left, repair_right};
+use crate::turns::repair_beside;
 use aug_monoid::{Augment, Leaf, NoMemory, Steps, share_entry};
 use balance::link_here;
 use std::alloc::Global;
 use std::sync::ledger::Ledger;
-use tree_base::{BlockSize, LookOver, TreeOver};
+use tree_base::{BlockSize, TreeOver};
 
-/// Joins a heavy tree with a light one on its right.
-fn join_right<A: Augment, L: Leaf<A::Key, A::Val>, S: BlockSize, C: Ledger>(
+/// Joins a heavy tree with a light one on a given side of it.
+fn join_beside<A: Augment, L: Leaf<A::Key, A::Val>, S: BlockSize, C: Ledger>(
     alloc: Global,
-    left: Part<'_, A, L, S>,
+    side: Side,
+    heavy: Part<'_, A, L, S>,
     key: A::Key,
     val: A::Val,
-    right: Part<'_, A, L, S>,
+    light: Part<'_, A, L, S>,
     steps: &mut Steps<C>,
 ) -> Result<TreeOver<A, L, S>, NoMemory>
-    requires increasing { IsIncreasing A.Key.cmp (left.tree.now.entries ++ (key, val) ∷ right.tree.now.entries) }
-    requires not_lighter { weight right.tree.now.entries ≤ 3 * weight left.tree.now.entries }
-    ensures entries { IfOk result (λ tree. tree.entries ≡ left.entry.tree.now.entries ++ (key, val) ∷ right.entry.tree.now.entries) }
-    ensures linked { weight left.entry.tree.now.entries ≤ 3 * weight right.entry.tree.now.entries → steps.new ≤ steps.old + link_cost S.SIZE }
-    ensures one_level { weight left.entry.tree.now.entries ≤ 4 * weight right.entry.tree.now.entries → steps.new ≤ steps.old + 4 * link_cost S.SIZE }
-    ensures two_levels { 3 * weight left.entry.tree.now.entries ≤ 16 * weight right.entry.tree.now.entries + 3 → steps.new ≤ steps.old + 7 * link_cost S.SIZE }
+    requires increasing { IsIncreasing A.Key.cmp (beside side heavy.tree.now.entries (key, val) light.tree.now.entries) }
+    requires not_lighter { weight light.tree.now.entries ≤ 3 * weight heavy.tree.now.entries }
+    ensures entries { IfOk result (λ tree. tree.entries ≡ beside side heavy.entry.tree.now.entries (key, val) light.entry.tree.now.entries) }
+    ensures linked { weight heavy.entry.tree.now.entries ≤ 3 * weight light.entry.tree.now.entries → steps.new ≤ steps.old + link_cost S.SIZE }
+    ensures one_level { weight heavy.entry.tree.now.entries ≤ 4 * weight light.entry.tree.now.entries → steps.new ≤ steps.old + 4 * link_cost S.SIZE }
+    ensures two_levels { 3 * weight heavy.entry.tree.now.entries ≤ 16 * weight light.entry.tree.now.entries + 3 → steps.new ≤ steps.old + 7 * link_cost S.SIZE }
+    ensures levels { (n : ℕ) → IsWithinLevels S.SIZE n (weight heavy.entry.tree.now.entries) (weight light.entry.tree.now.entries) → steps.new ≤ steps.old + (3 * n + 1) * link_cost S.SIZE }
 {
-    if are_small(left.tree, right.tree) || link_here(weight_of(left.tree), weight_of(right.tree)) {
-        return TreeOver::link(alloc, left.tree, key, val, right.tree, steps);
+    if are_small(heavy.tree, light.tree)
+        || link_here(weight_of(heavy.tree), weight_of(light.tree))
+    {
+        return link_beside(alloc, side, heavy.tree, key, val, light.tree, steps);
     }
-    let LookOver::Node {
-        left: outer,
-        key: outer_key,
-        val: outer_val,
-        right: near,
-    } = left.tree.look()
-    else {
-        unreachable!()
-    };
-    let near = join_right(alloc, Part { tree: near }, key, val, right, steps)?;
-    repair_right(alloc, outer, outer_key, outer_val, &near, steps)
-}
-
-/// Joins a heavy tree with a light one on its left.
-fn join_left<A: Augment, L: Leaf<A::Key, A::Val>, S: BlockSize, C: Ledger>(
-    alloc: Global,
-    left: Part<'_, A, L, S>,
-    key: A::Key,
-    val: A::Val,
-    right: Part<'_, A, L, S>,
-    steps: &mut Steps<C>,
-) -> Result<TreeOver<A, L, S>, NoMemory>
-    requires increasing { IsIncreasing A.Key.cmp (left.tree.now.entries ++ (key, val) ∷ right.tree.now.entries) }
-    requires not_lighter { weight left.tree.now.entries ≤ 3 * weight right.tree.now.entries }
-    ensures entries { IfOk result (λ tree. tree.entries ≡ left.entry.tree.now.entries ++ (key, val) ∷ right.entry.tree.now.entries) }
-    ensures linked { weight right.entry.tree.now.entries ≤ 3 * weight left.entry.tree.now.entries → steps.new ≤ steps.old + link_cost S.SIZE }
-    ensures one_level { weight right.entry.tree.now.entries ≤ 4 * weight left.entry.tree.now.entries → steps.new ≤ steps.old + 4 * link_cost S.SIZE }
-    ensures two_levels { 3 * weight right.entry.tree.now.entries ≤ 16 * weight left.entry.tree.now.entries + 3 → steps.new ≤ steps.old + 7 * link_cost S.SIZE }
-{
-    if are_small(left.tree, right.tree) || link_here(weight_of(right.tree), weight_of(left.tree)) {
-        return TreeOver::link(alloc, left.tree, key, val, right.tree, steps);
-    }
-    let LookOver::Node {
-        left: near,
-        key: outer_key,
-        val: outer_val,
-        right: outer,
-    } = right.tree.look()
-    else {
-        unreachable!()
-    };
-    let near = join_left(alloc, left, key, val, Part { tree: near }, steps)?;
-    repair_left(alloc, &near, outer_key, outer_val, outer, steps)
+    let sides = sides_of(heavy.tree, side);
+    let near = join_beside(
+        alloc,
+        side,
+        Part { tree: sides.near },
+        key,
+        val,
+        light,
+        steps,
+    )?;
+    repair_beside(alloc, side, sides.far, sides.key, sides.val, &near, steps)
 }
 
 /// The map of all entries of a left map, an entry whose key is greater than all theirs, and a right map whose keys are
 /// greater still. Its time is linear in the difference of the heights; sides that are nearly balanced take at most
-/// `7 * (4 * B + 4)` steps.
+/// `7 * (4 * B + 4)` steps, and sides that are within n levels at most `(3 * n + 1) * (4 * B + 4)`.
 pub fn join<A: Augment, L: Leaf<A::Key, A::Val>, S: BlockSize, C: Ledger>(
     alloc: Global,
     left: &TreeOver<A, L, S>,
@@ -92,25 +67,14 @@ pub fn join<A: Augment, L: Leaf<A::Key, A::Val>, S: BlockSize, C: Ledger>(
     requires above { AllAbove A.Key.cmp right.now.entries key }
     ensures entries { IfOk result (λ tree. tree.entries ≡ left.now.entries ++ (key, val) ∷ right.now.entries) }
     ensures cost { weight left.now.entries ≤ 3 * weight right.now.entries + 3 → weight right.now.entries ≤ 3 * weight left.now.entries + 3 → steps.new ≤ steps.old + 7 * link_cost S.SIZE }
+    ensures levels { (n : ℕ) → IsWithinLevels S.SIZE n (weight left.now.entries) (weight right.now.entries) → IsWithinLevels S.SIZE n (weight right.now.entries) (weight left.now.entries) → steps.new ≤ steps.old + (3 * n + 1) * link_cost S.SIZE }
 {
     if left.size() < right.size() {
-        join_left(
-            alloc,
-            Part { tree: left },
-            key,
-            val,
-            Part { tree: right },
-            steps,
-        )
+        let (heavy, light) = (Part { tree: right }, Part { tree: left });
+        join_beside(alloc, Side::Left, heavy, key, val, light, steps)
     } else {
-        join_right(
-            alloc,
-            Part { tree: left },
-            key,
-            val,
-            Part { tree: right },
-            steps,
-        )
+        let (heavy, light) = (Part { tree: left }, Part { tree: right });
+        join_beside(alloc, Side::Right, heavy, key, val, light, steps)
     }
 }
 
@@ -127,6 +91,7 @@ pub fn join_lent<A: Augment, L: Leaf<A::Key, A::Val>, S: BlockSize, C: Ledger>(
     requires above { AllAbove A.Key.cmp right.now.entries key.now }
     ensures entries { IfOk result (λ tree. tree.entries ≡ left.now.entries ++ (key.now, val.now) ∷ right.now.entries) }
     ensures cost { weight left.now.entries ≤ 3 * weight right.now.entries + 3 → weight right.now.entries ≤ 3 * weight left.now.entries + 3 → steps.new ≤ steps.old + 7 * link_cost S.SIZE }
+    ensures levels { (n : ℕ) → IsWithinLevels S.SIZE n (weight left.now.entries) (weight right.now.entries) → IsWithinLevels S.SIZE n (weight right.now.entries) (weight left.now.entries) → steps.new ≤ steps.old + (3 * n + 1) * link_cost S.SIZE }
 {
     let (key, val) = share_entry(alloc, key, val)?;
     join(alloc, left, key, val, right, steps)

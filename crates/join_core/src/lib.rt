@@ -8,6 +8,7 @@
 mod ends;
 mod joins;
 mod owners;
+mod sides;
 mod sizes;
 mod turns;
 

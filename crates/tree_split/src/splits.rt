@@ -1,7 +1,9 @@
 //! A map split at a key.
-ghost use Rattle.std.specs.Prelude.{◌≡◌, ◌+◌, ◌*◌, ◌≤◌, ◌∷◌, ◌++◌, IfOk, IsSome, None, Some, drop, length, take};
-ghost use Rattle.map_model.specs.Balance.{IsBlockSize};
+ghost use Rattle.std.specs.Prelude.{◌≡◌, ℕ, ◌+◌, ◌*◌, ◌^◌, ◌≤◌, ◌∷◌, ◌++◌, IfOk, IsSome, None, Some, drop, length, take};
+ghost use Rattle.join_core.specs.Levels.{IsWithinLevels};
+ghost use Rattle.map_model.specs.Balance.{IsBlockSize, weight};
 ghost use Rattle.map_model.specs.Entries.{AllAbove, AllBelow, IsIncreasing, above, below, lookup};
+ghost use Rattle.tree_base.specs.Shape.{link_cost};
 
 use aug_monoid::{Augment, Key, Leaf, NoMemory, Share, Steps};
 use join_core::{Part, join_lent};
@@ -37,6 +39,7 @@ fn split_around<A: Augment, L: Leaf<A::Key, A::Val>, S: BlockSize, C: Ledger>(
     ensures below { IfOk result (λ parts. parts.below.entries ≡ below A.Key.cmp (L.entries leaf.now) key.now) }
     ensures found { IfOk result (λ parts. parts.found ≡ lookup A.Key.cmp (L.entries leaf.now) key.now) }
     ensures above { IfOk result (λ parts. parts.above.entries ≡ above A.Key.cmp (L.entries leaf.now) key.now) }
+    ensures cost { steps.new ≤ steps.old + link_cost S.SIZE }
 {
     let around = cut_around(alloc, leaf, at)?;
     let lower = TreeOver::from_leaf(alloc, around.front, steps)?;
@@ -64,6 +67,7 @@ fn split_between<A: Augment, L: Leaf<A::Key, A::Val>, S: BlockSize, C: Ledger>(
     ensures below { IfOk result (λ parts. parts.below.entries ≡ below A.Key.cmp (L.entries leaf.now) key.now) }
     ensures found { IfOk result (λ parts. parts.found ≡ None) }
     ensures above { IfOk result (λ parts. parts.above.entries ≡ above A.Key.cmp (L.entries leaf.now) key.now) }
+    ensures cost { steps.new ≤ steps.old + link_cost S.SIZE }
 {
     let lower = front_tree(alloc, leaf, at, steps)?;
     let higher = back_tree(alloc, leaf, at, steps)?;
@@ -85,7 +89,8 @@ fn front_tree<A: Augment, L: Leaf<A::Key, A::Val>, S: BlockSize, C: Ledger>(
     requires increasing { IsIncreasing A.Key.cmp (L.entries leaf.now) }
     requires short { length (L.entries leaf.now) ≤ 2 * S.SIZE }
     requires inside { at ≤ length (L.entries leaf.now) }
-    ensures { IfOk result (λ tree. tree.entries ≡ take at (L.entries leaf.now)) }
+    ensures entries { IfOk result (λ tree. tree.entries ≡ take at (L.entries leaf.now)) }
+    ensures cost { steps.new ≤ steps.old + (at + 1) }
 {
     let front = leaf.front(alloc, at)?;
     TreeOver::from_leaf(alloc, front, steps)
@@ -102,7 +107,8 @@ fn back_tree<A: Augment, L: Leaf<A::Key, A::Val>, S: BlockSize, C: Ledger>(
     requires increasing { IsIncreasing A.Key.cmp (L.entries leaf.now) }
     requires short { length (L.entries leaf.now) ≤ 2 * S.SIZE }
     requires inside { at ≤ length (L.entries leaf.now) }
-    ensures { IfOk result (λ tree. tree.entries ≡ drop at (L.entries leaf.now)) }
+    ensures entries { IfOk result (λ tree. tree.entries ≡ drop at (L.entries leaf.now)) }
+    ensures cost { steps.new + at ≤ steps.old + (length (L.entries leaf.now) + 1) }
 {
     let back = leaf.back(alloc, at)?;
     TreeOver::from_leaf(alloc, back, steps)
@@ -121,6 +127,7 @@ fn split_block<A: Augment, L: Leaf<A::Key, A::Val>, S: BlockSize, C: Ledger>(
     ensures below { IfOk result (λ parts. parts.below.entries ≡ below A.Key.cmp (L.entries leaf.now) key.now) }
     ensures found { IfOk result (λ parts. parts.found ≡ lookup A.Key.cmp (L.entries leaf.now) key.now) }
     ensures above { IfOk result (λ parts. parts.above.entries ≡ above A.Key.cmp (L.entries leaf.now) key.now) }
+    ensures cost { steps.new ≤ steps.old + (link_cost S.SIZE + L.FIND) }
 {
     let place = leaf.seek(key, steps);
     if place.hit {
@@ -144,6 +151,7 @@ fn extend_above<A: Augment, L: Leaf<A::Key, A::Val>, S: BlockSize, C: Ledger>(
     ensures below { IfOk result (λ new. new.below.entries ≡ parts.below.entries) }
     ensures found { IfOk result (λ new. new.found ≡ parts.found) }
     ensures above { IfOk result (λ new. new.above.entries ≡ parts.above.entries ++ (key.now, val.now) ∷ right.now.entries) }
+    ensures levels { (n : ℕ) → IsWithinLevels S.SIZE n (weight parts.above.entries) (weight right.now.entries) → IsWithinLevels S.SIZE n (weight right.now.entries) (weight parts.above.entries) → steps.new ≤ steps.old + (3 * n + 1) * link_cost S.SIZE }
 {
     let higher = join_lent(alloc, &parts.above, key, val, right, steps)?;
     Ok(PartsOver {
@@ -167,6 +175,7 @@ fn extend_below<A: Augment, L: Leaf<A::Key, A::Val>, S: BlockSize, C: Ledger>(
     ensures below { IfOk result (λ new. new.below.entries ≡ left.now.entries ++ (key.now, val.now) ∷ parts.below.entries) }
     ensures found { IfOk result (λ new. new.found ≡ parts.found) }
     ensures above { IfOk result (λ new. new.above.entries ≡ parts.above.entries) }
+    ensures levels { (n : ℕ) → IsWithinLevels S.SIZE n (weight left.now.entries) (weight parts.below.entries) → IsWithinLevels S.SIZE n (weight parts.below.entries) (weight left.now.entries) → steps.new ≤ steps.old + (3 * n + 1) * link_cost S.SIZE }
 {
     let lower = join_lent(alloc, left, key, val, &parts.below, steps)?;
     Ok(PartsOver {
@@ -198,7 +207,8 @@ fn parts_of_sides<A: Augment, L: Leaf<A::Key, A::Val>, S: BlockSize>(
 }
 
 /// The entries below a key, the value at it, and the entries above it, in time linear in the height. It shares what lies off
-/// the key's path with `tree`.
+/// the key's path with `tree`. Where `(3/4)^n * (size + 1)` is at most B, it takes at most
+/// `(2 * height + 6 * n + 1) * (4 * B + 4) + L::FIND` steps.
 pub fn split<A: Augment, L: Leaf<A::Key, A::Val>, S: BlockSize, C: Ledger>(
     alloc: Global,
     tree: &TreeOver<A, L, S>,
@@ -208,6 +218,7 @@ pub fn split<A: Augment, L: Leaf<A::Key, A::Val>, S: BlockSize, C: Ledger>(
     ensures below { IfOk result (λ parts. parts.below.entries ≡ below A.Key.cmp tree.now.entries key.now) }
     ensures found { IfOk result (λ parts. parts.found ≡ lookup A.Key.cmp tree.now.entries key.now) }
     ensures above { IfOk result (λ parts. parts.above.entries ≡ above A.Key.cmp tree.now.entries key.now) }
+    ensures cost { (n : ℕ) → 3 ^ n * weight tree.now.entries ≤ 4 ^ n * S.SIZE → steps.new ≤ steps.old + ((2 * tree.now.height + 6 * n + 1) * link_cost S.SIZE + L.FIND) }
 {
     split_in(alloc, Part { tree }, key, steps)
 }
@@ -221,6 +232,7 @@ fn split_in<A: Augment, L: Leaf<A::Key, A::Val>, S: BlockSize, C: Ledger>(
     ensures below { IfOk result (λ parts. parts.below.entries ≡ below A.Key.cmp part.entry.tree.now.entries key.now) }
     ensures found { IfOk result (λ parts. parts.found ≡ lookup A.Key.cmp part.entry.tree.now.entries key.now) }
     ensures above { IfOk result (λ parts. parts.above.entries ≡ above A.Key.cmp part.entry.tree.now.entries key.now) }
+    ensures cost { (a b : ℕ) → 3 ^ a * weight (below A.Key.cmp part.entry.tree.now.entries key.now) ≤ 4 ^ a * S.SIZE → 3 ^ b * weight (above A.Key.cmp part.entry.tree.now.entries key.now) ≤ 4 ^ b * S.SIZE → steps.new ≤ steps.old + ((2 * part.entry.tree.now.height + 3 * a + 3 * b + 1) * link_cost S.SIZE + L.FIND) }
 {
     match part.tree.look() {
         LookOver::Empty => Ok(PartsOver {

@@ -1,8 +1,13 @@
-use Rattle.std.proofs.Common.{◌≡◌, sym}
+use Rattle.std.proofs.Common.{◌≡◌, ◌≤◌, ◌∷◌, ◌++◌, length, sym, arith}
 use Rattle.std.specs.declared.cmp.Ordering.TheVariants.{Less}
+use Rattle.map_model.specs.Balance.{weight}
+use Rattle.map_model.specs.Entries.{above, below}
+use Rattle.map_model.proofs.Lengths.{length-filter_le}
 use Rattle.map_model.proofs.Keys.{around, AllKeys-filter}
 use Rattle.map_model.proofs.Lookups.{lookup_left, lookup_middle, lookup_right}
 use Rattle.map_model.proofs.Around.{below-around_less, below-around_equal, below-around_greater, above-around_less, above-around_equal, above-around_greater}
+use Rattle.tree_base.specs.Shape.{link_cost}
+use Rattle.tree_split.proofs.Levels.{levels_above, levels_below, light_levels, node_more, node_more_below, node_kept, node_kept_below}
 use Rattle.tree_split.proofs.splits.+split_in.Goals as goal
 
 pub extend_above-requires-clause-lower : goal.extend_above-requires-clause-lower
@@ -110,3 +115,90 @@ returns-in_ok-parts-in-Greater-clause-above g t c =
     let key = c.in-Node.node_key.now in
     let val = c.in-Node.node_val.now in
     rw (shape.entries_are, above-around_greater total left key val right c.args.key.now shape.increasing (sym c.in-Greater.ensures.value)) (rw c.in_ok-parts-in-Greater.ensures.above at c.extend_below.ensures.above)
+
+pub returns-in-Empty-clause-cost : goal.returns-in-Empty-clause-cost
+returns-in-Empty-clause-cost g t c = λ a b low high. omega arith
+
+pub returns-in-Block-clause-cost : goal.returns-in-Block-clause-cost
+returns-in-Block-clause-cost g t c = λ a b low high. omega (arith, c.split_block.ensures.cost)
+
+pub returns-in-Equal-clause-cost : goal.returns-in-Equal-clause-cost
+returns-in-Equal-clause-cost g t c = λ a b low high. omega (arith, c.order.ensures.one_step)
+
+pub returns-in_err-parts-in-Less-clause-cost : goal.returns-in_err-parts-in-Less-clause-cost
+returns-in_err-parts-in-Less-clause-cost g t c = λ a b low high.
+    let order = g.A.Key.Ord.cmp in
+    let total = g.met.A.Key.Ord.total in
+    let shape = c.in-Node.ensures.top in
+    let left = c.in-Node.left.now.entries in
+    let right = c.in-Node.right.now.entries in
+    let key = c.in-Node.node_key.now in
+    let val = c.in-Node.node_val.now in
+    let block = g.S.BlockSize.SIZE in
+    let q = c.args.key.now in
+    let is = sym c.in-Less.ensures.value in
+    let low_is : below order c.args.part.tree.now.entries q ≡ below order left q = rw shape.entries_are (below-around_less total left key val right q shape.increasing is) in
+    let high_is : above order c.args.part.tree.now.entries q ≡ above order left q ++ (key, val) ∷ right = rw shape.entries_are (above-around_less total left key val right q shape.increasing is) in
+    let levels = levels_above block b (above order c.args.part.tree.now.entries q) (above order left q) (key, val) right high_is high in
+    let split = c.in_err-parts-in-Less.ensures.cost a levels.m (rw low_is at low) levels.part_levels in
+    node_kept c.args.part.tree.now.height c.in-Node.left.now.height a b levels.m levels.n _ _ _ (link_cost block) _ (omega (arith, shape.height_is)) levels.sum_is (omega arith) c.order.ensures.one_step split
+
+pub returns-in_ok-parts-in-Less-clause-cost : goal.returns-in_ok-parts-in-Less-clause-cost
+returns-in_ok-parts-in-Less-clause-cost g t c = λ a b low high.
+    let order = g.A.Key.Ord.cmp in
+    let total = g.met.A.Key.Ord.total in
+    let shape = c.in-Node.ensures.top in
+    let left = c.in-Node.left.now.entries in
+    let right = c.in-Node.right.now.entries in
+    let key = c.in-Node.node_key.now in
+    let val = c.in-Node.node_val.now in
+    let block = g.S.BlockSize.SIZE in
+    let q = c.args.key.now in
+    let is = sym c.in-Less.ensures.value in
+    let low_is : below order c.args.part.tree.now.entries q ≡ below order left q = rw shape.entries_are (below-around_less total left key val right q shape.increasing is) in
+    let high_is : above order c.args.part.tree.now.entries q ≡ above order left q ++ (key, val) ∷ right = rw shape.entries_are (above-around_less total left key val right q shape.increasing is) in
+    let levels = levels_above block b (above order c.args.part.tree.now.entries q) (above order left q) (key, val) right high_is high in
+    let split = c.in_ok-parts-in-Less.ensures.cost a levels.m (rw low_is at low) levels.part_levels in
+    let joined = rw c.in_ok-parts-in-Less.ensures.above at c.extend_above.ensures.levels in
+    let fewer : length (above order left q) ≤ length left = length-filter_le _ left in
+    let light = light_levels block levels.n (weight (above order left q)) (weight right) (omega (arith, fewer, shape.balanced.0)) in
+    node_more c.args.part.tree.now.height c.in-Node.left.now.height a b levels.m levels.n _ _ _ _ (link_cost block) _ (omega (arith, shape.height_is)) levels.sum_is (omega arith) c.order.ensures.one_step split (joined levels.n light levels.side_levels)
+
+pub returns-in_err-parts-in-Greater-clause-cost : goal.returns-in_err-parts-in-Greater-clause-cost
+returns-in_err-parts-in-Greater-clause-cost g t c = λ a b low high.
+    let order = g.A.Key.Ord.cmp in
+    let total = g.met.A.Key.Ord.total in
+    let shape = c.in-Node.ensures.top in
+    let left = c.in-Node.left.now.entries in
+    let right = c.in-Node.right.now.entries in
+    let key = c.in-Node.node_key.now in
+    let val = c.in-Node.node_val.now in
+    let block = g.S.BlockSize.SIZE in
+    let q = c.args.key.now in
+    let is = sym c.in-Greater.ensures.value in
+    let low_is : below order c.args.part.tree.now.entries q ≡ left ++ (key, val) ∷ below order right q = rw shape.entries_are (below-around_greater total left key val right q shape.increasing is) in
+    let high_is : above order c.args.part.tree.now.entries q ≡ above order right q = rw shape.entries_are (above-around_greater total left key val right q shape.increasing is) in
+    let levels = levels_below block a (below order c.args.part.tree.now.entries q) left (key, val) (below order right q) low_is low in
+    let split = c.in_err-parts-in-Greater.ensures.cost levels.m b levels.part_levels (rw high_is at high) in
+    node_kept_below c.args.part.tree.now.height c.in-Node.right.now.height b a levels.m levels.n _ _ _ (link_cost block) _ (omega (arith, shape.height_is)) levels.sum_is (omega arith) c.order.ensures.one_step split
+
+pub returns-in_ok-parts-in-Greater-clause-cost : goal.returns-in_ok-parts-in-Greater-clause-cost
+returns-in_ok-parts-in-Greater-clause-cost g t c = λ a b low high.
+    let order = g.A.Key.Ord.cmp in
+    let total = g.met.A.Key.Ord.total in
+    let shape = c.in-Node.ensures.top in
+    let left = c.in-Node.left.now.entries in
+    let right = c.in-Node.right.now.entries in
+    let key = c.in-Node.node_key.now in
+    let val = c.in-Node.node_val.now in
+    let block = g.S.BlockSize.SIZE in
+    let q = c.args.key.now in
+    let is = sym c.in-Greater.ensures.value in
+    let low_is : below order c.args.part.tree.now.entries q ≡ left ++ (key, val) ∷ below order right q = rw shape.entries_are (below-around_greater total left key val right q shape.increasing is) in
+    let high_is : above order c.args.part.tree.now.entries q ≡ above order right q = rw shape.entries_are (above-around_greater total left key val right q shape.increasing is) in
+    let levels = levels_below block a (below order c.args.part.tree.now.entries q) left (key, val) (below order right q) low_is low in
+    let split = c.in_ok-parts-in-Greater.ensures.cost levels.m b levels.part_levels (rw high_is at high) in
+    let joined = rw c.in_ok-parts-in-Greater.ensures.below at c.extend_below.ensures.levels in
+    let fewer : length (below order right q) ≤ length right = length-filter_le _ right in
+    let light = light_levels block levels.n (weight (below order right q)) (weight left) (omega (arith, fewer, shape.balanced.1)) in
+    node_more_below c.args.part.tree.now.height c.in-Node.right.now.height b a levels.m levels.n _ _ _ _ (link_cost block) _ (omega (arith, shape.height_is)) levels.sum_is (omega arith) c.order.ensures.one_step split (joined levels.n levels.side_levels light)

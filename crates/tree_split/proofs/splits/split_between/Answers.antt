@@ -1,4 +1,4 @@
-use Rattle.std.proofs.Common.{ap, drop, take, ◌∙◌}
+use Rattle.std.proofs.Common.{ap, drop, take, ◌∙◌, arith}
 use Rattle.map_model.proofs.Cuts.{cut_missed, place_any}
 use Rattle.tree_split.proofs.splits.split_between.Goals as goal
 
@@ -12,10 +12,15 @@ pub returns-clause-below : goal.returns-clause-below
 returns-clause-below g c =
     let entries = g.L.Leaf.entries c.args.leaf.now in
     let parts = cut_missed g.met.A.Key.Ord.total g.met.A.Key.Key.exact entries c.args.key.now c.requires.increasing c.requires.missed in
-    c.in_ok-lower.ensures ∙ ap (λ at. take at entries) c.requires.place ∙ parts.0
+    c.in_ok-lower.ensures.entries ∙ ap (λ at. take at entries) c.requires.place ∙ parts.0
 
 pub returns-clause-above : goal.returns-clause-above
 returns-clause-above g c =
     let entries = g.L.Leaf.entries c.args.leaf.now in
     let parts = cut_missed g.met.A.Key.Ord.total g.met.A.Key.Key.exact entries c.args.key.now c.requires.increasing c.requires.missed in
-    c.in_ok-higher.ensures ∙ ap (λ at. drop at entries) c.requires.place ∙ parts.1
+    c.in_ok-higher.ensures.entries ∙ ap (λ at. drop at entries) c.requires.place ∙ parts.1
+
+pub returns-in_err-lower-clause-cost : goal.returns-in_err-lower-clause-cost
+returns-in_err-lower-clause-cost g c =
+    let inside = place_any g.A.Key.Ord.cmp (g.L.Leaf.entries c.args.leaf.now) c.args.key.now in
+    omega (arith, inside, c.requires.place, c.requires.short, c.front_tree.ensures.cost)
