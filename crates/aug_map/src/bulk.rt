@@ -21,7 +21,8 @@ impl<A: SyncAugment, L: Leaf<A::Key, A::Val> + Send + Sync, S: BlockSize + Send 
     L,
     S,
 > {
-    /// The map that pairs make, put in order into the empty map, so that a later pair of a key wins.
+    /// The map that pairs make, put in order into the empty map, so that a later pair of a key wins. O(n * log n) work for n
+    /// pairs.
     pub fn build<R: Threads + Sync, G: Gate>(
         rt: &R,
         alloc: Global,
@@ -84,7 +85,8 @@ impl<A: SyncAugment, L: Leaf<A::Key, A::Val> + Send + Sync, S: BlockSize + Send 
         Ok(MapOver { tree })
     }
 
-    /// The map after all puts in order, so that a later pair of a key wins.
+    /// The map after all puts in order, so that a later pair of a key wins. O(k * log k + k * log(n / k + 1)) work for k pairs
+    /// and a map of n entries.
     pub fn multi_put<R: Threads + Sync, G: Gate>(
         &self,
         rt: &R,
@@ -99,7 +101,7 @@ impl<A: SyncAugment, L: Leaf<A::Key, A::Val> + Send + Sync, S: BlockSize + Send 
         Ok(MapOver { tree })
     }
 
-    /// The map without these keys; keys that it hasn't change nothing.
+    /// The map without these keys; keys that it hasn't change nothing. O(k * log n) work for k keys and a map of n entries.
     pub fn multi_del<R: Threads + Sync, G: Gate>(
         &self,
         rt: &R,

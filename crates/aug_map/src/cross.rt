@@ -7,7 +7,7 @@ use tree_base::BlockSize;
 
 fn crosses<T: Send + Sync>(_value: &T) {}
 
-/// A map and its cursors are sent to and shared among threads.
+/// A map and its cursors are sent to and shared among threads. It does nothing, and is there for the proof of that alone.
 pub fn map_crosses<
     A: SyncAugment,
     L: Leaf<A::Key, A::Val> + Send + Sync,

@@ -10,7 +10,7 @@ use std::sync::ledger::Ledger;
 use tree_base::BlockSize;
 
 impl<A: Augment, L: Leaf<A::Key, A::Val>, S: BlockSize> MapOver<A, L, S> {
-    /// The map of one entry.
+    /// The map of one entry. O(1).
     pub fn single(alloc: Global, key: A::Key, val: A::Val) -> Result<MapOver<A, L, S>, NoMemory>
         requires block_size { IsBlockSize S.SIZE }
         ensures { IfOk result (λ map. map.entries ≡ (key, val) ∷ []) }

@@ -2,6 +2,7 @@
 //! so that copies taken before stay as they were. A refusal gives the map up.
 ghost use Rattle.std.specs.Prelude.{◌≡◌, IfOk};
 ghost use Rattle.map_model.specs.Entries.{IsIncreasing};
+ghost use Rattle.map_model.specs.Operations.{after, puts};
 ghost use Rattle.map_model.specs.SetOperations.{union};
 
 use crate::map::MapOver;
@@ -37,6 +38,23 @@ impl<
         let tree = bulk_changes::union_into(rt, alloc, gate, cut, tree, list, how)?;
         Ok(MapOver { tree })
     }
+
+    /// The map after all puts in order, so that a later pair of a key wins. O(k * log k + k * log(n / k + 1)) work for k pairs and
+    /// a map of n entries.
+    pub fn multi_put_into<R: Threads + Sync, G: Gate>(
+        self,
+        rt: &R,
+        alloc: Global,
+        gate: &G,
+        cut: Cut,
+        pairs: &[(A::Key, A::Val)],
+    ) -> Result<MapOver<A, L, S>, NoMemory>
+        ensures { IfOk result (λ map. map.entries ≡ after A.Key.cmp self.entries (puts pairs.now)) }
+    {
+        let tree = self.into_tree();
+        let tree = batch_ops::multi_put_into(rt, alloc, gate, cut, tree, pairs)?;
+        Ok(MapOver { tree })
+    }
 }
 
 impl<A: Augment, L: IntoEntries<A::Key, A::Val>, S: BlockSize> MapOver<A, L, S> {
@@ -44,7 +62,7 @@ impl<A: Augment, L: IntoEntries<A::Key, A::Val>, S: BlockSize> MapOver<A, L, S> 
     fn into_tree(self) -> TreeOver<A, L, S>
         ensures { result ≡ self }
     {
-        let _least = self.tree.block_size();
+        let _least = self.tree.block_size(); // for the proof alone: the block size is lawful
         let mut map = self;
         mem::replace(&mut map.tree, TreeOver::empty())
     }
@@ -62,6 +80,20 @@ impl<A: Augment, L: IntoEntries<A::Key, A::Val>, S: BlockSize> MapOver<A, L, S> 
     {
         let tree = self.into_tree();
         let tree = bulk_changes::union_into_alone(alloc, tree, list, how)?;
+        Ok(MapOver { tree })
+    }
+
+    /// `multi_put_into` on one thread, which asks of keys, values and folds nothing about threads.
+    /// O(k * log k + k * log(n / k + 1)) for k pairs and a map of n entries.
+    pub fn multi_put_into_alone(
+        self,
+        alloc: Global,
+        pairs: &[(A::Key, A::Val)],
+    ) -> Result<MapOver<A, L, S>, NoMemory>
+        ensures { IfOk result (λ map. map.entries ≡ after A.Key.cmp self.entries (puts pairs.now)) }
+    {
+        let tree = self.into_tree();
+        let tree = batch_ops::multi_put_into_alone(alloc, tree, pairs)?;
         Ok(MapOver { tree })
     }
 }

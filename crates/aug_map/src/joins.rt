@@ -34,7 +34,7 @@ pub struct PartsOver<A: Augment, L: Leaf<A::Key, A::Val>, S: BlockSize> {
 
 impl<A: Augment, L: Leaf<A::Key, A::Val>, S: BlockSize> MapOver<A, L, S> {
     /// An entry of the map, with two sides whose weights are balanced; none exactly where there are no entries. Where there are
-    /// more than `2 * B` entries, the height is 1 plus that of the higher side.
+    /// more than `2 * B` entries, the height is 1 plus that of the higher side. O(B).
     pub fn expose(&self, alloc: Global) -> Result<Option<ExposedOver<A, L, S>>, NoMemory>
         ensures none { IfOk result (λ parts. IsNone parts ↔ (self.now.entries ≡ [])) }
         ensures entries { IfOk result (λ parts. IfSome parts (λ p. self.now.entries ≡ p.left.entries ++ (p.key, p.val) ∷ p.right.entries)) }

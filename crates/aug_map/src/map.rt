@@ -41,7 +41,7 @@ impl<A: Augment, L: Leaf<A::Key, A::Val>, S: BlockSize> Drop for MapOver<A, L, S
 }
 
 impl<A: Augment, L: Leaf<A::Key, A::Val>, S: BlockSize> MapOver<A, L, S> {
-    /// The map with no entries. It takes no memory.
+    /// The map with no entries. It takes no memory. O(1).
     pub fn empty() -> MapOver<A, L, S>
         requires block_size { IsBlockSize S.SIZE }
         ensures entries { result.entries ≡ [] }
@@ -52,7 +52,7 @@ impl<A: Augment, L: Leaf<A::Key, A::Val>, S: BlockSize> MapOver<A, L, S> {
         }
     }
 
-    /// How many entries there are.
+    /// How many entries there are. O(1).
     pub fn size(&self) -> u64
         ensures value { result ≡ length self.now.entries }
         ensures fits { result < 2 ^ 60 }
@@ -69,7 +69,7 @@ impl<A: Augment, L: Leaf<A::Key, A::Val>, S: BlockSize> MapOver<A, L, S> {
         self.tree.height()
     }
 
-    /// The fold of all entries, which is stored; none exactly where there are no entries.
+    /// The fold of all entries, which is stored; none exactly where there are no entries. O(1).
     pub fn aug(&self) -> Option<&A::Aug>
         ensures none { IsNone result ↔ (self.now.entries ≡ []) }
         ensures fold { IfSome result (λ aug. aug.now ≡ fold_of A.base_of A.unit_of A.combined self.now.entries) }

@@ -85,7 +85,7 @@ impl<A: Augment, L: Leaf<A::Key, A::Val>, S: BlockSize> MapOver<A, L, S> {
     }
 
     /// The image of the fold of the entries with keys from `lo` to `hi`, both included. It is met from images of stored folds and
-    /// of single entries; no two augmented values are combined.
+    /// of single entries; no two augmented values are combined. O(log n + B) images in a map of n entries.
     pub fn aug_project<P: Project<A>>(
         &self,
         alloc: Global,

@@ -1,4 +1,12 @@
 //! Keys, values and augmented values of ordered maps, with the laws that the maps rest on.
+//!
+//! A map is given by an `Augment`: its keys (`Key`), its values (`Share`), and what is kept of entries beside them, with how two
+//! such values combine. Blocks of entries are a `Leaf`, which lends its entries, is searched by a key and gives its parts. What
+//! callers hand in are traits too: `Resolve` for two values at one key, `Test` and `AugTest` for filters, `Reduce` and `Project`
+//! for what is made of many entries. Each trait states its laws as ghost members, and each type here proves them.
+//!
+//! `Steps` counts comparisons of keys and combinations of augmented values, so that contracts can bound them. `NoMemory` is the
+//! one refusal.
 #![tactic(auto)]
 
 mod augment;

@@ -14,7 +14,7 @@ use tree_base::{BlockSize, TreeOver};
 
 /// The map that pairs make, put in order into the empty map, so that a later pair of a key wins.
 ///
-/// The pairs are sorted by a stable sort on all processors, and the tree is made by halves where the
+/// The pairs are sorted by a stable sort, on all processors where there are many, and the tree is made by halves where the
 /// cut allows it: for n pairs about n * log n comparisons. `NoMemory` for want of memory alone.
 pub fn build<
     R: Threads + Sync,

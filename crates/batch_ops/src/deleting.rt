@@ -66,8 +66,8 @@ pub fn multi_del<
 ) -> Result<TreeOver<A, L, S>, NoMemory>
     ensures { IfOk result (λ new. new.entries ≡ after A.Key.cmp tree.now.entries (dels keys.now)) }
 {
-    let _least = tree.block_size();
-    let _size = tree.size();
+    let _least = tree.block_size(); // for the proof alone: the block size is lawful
+    let _size = tree.size(); // for the proof alone: keys rise
     let found = entries_at(alloc, tree, keys)?;
     let batch = last_of_each_key(rt, alloc, &found)?;
     let gone = plant(rt, alloc, gate, cut, &batch)?;
@@ -83,8 +83,8 @@ pub fn multi_del_alone<A: Augment, L: Leaf<A::Key, A::Val>, S: BlockSize>(
 ) -> Result<TreeOver<A, L, S>, NoMemory>
     ensures { IfOk result (λ new. new.entries ≡ after A.Key.cmp tree.now.entries (dels keys.now)) }
 {
-    let _least = tree.block_size();
-    let _size = tree.size();
+    let _least = tree.block_size(); // for the proof alone: the block size is lawful
+    let _size = tree.size(); // for the proof alone: keys rise
     let found = entries_at(alloc, tree, keys)?;
     let batch = last_of_each_key_alone(alloc, &found)?;
     let gone = plant_alone(alloc, &batch)?;

@@ -5,7 +5,7 @@ use version_root::SyncState;
 
 fn sends<T: Send>(_value: &T) {}
 
-/// The store and each caller are sent to threads of their own.
+/// The store and each caller are sent to threads of their own. It does nothing, and is there for the proof of that alone.
 pub(crate) fn store_crosses<S: SyncState>(
     store: &Store<S>,
     caller: &Caller<S>,

@@ -32,7 +32,7 @@ pub(crate) fn take_apart<A: Augment, L: IntoEntries<A::Key, A::Val>, S: BlockSiz
 ) -> Result<Taken<A, L, S>, NoMemory>
     ensures { IfOk result (IsTaken tree) }
 {
-    let _least = tree.block_size();
+    let _least = tree.block_size(); // for the proof alone: the block size is lawful
     let mut tree = tree;
     match mem::replace(&mut tree.top, Top::Empty(PhantomData)) {
         Top::Empty(_) => Ok(Taken::Entries(Vec::new(alloc))),

@@ -80,7 +80,7 @@ fn open_part<'b, A: Augment, L: IntoEntries<A::Key, A::Val>, S: BlockSize, H: Re
     if list.is_empty() {
         return Ok(Opened::Done(tree));
     }
-    let _least = tree.block_size();
+    let _least = tree.block_size(); // for the proof alone: the block size is lawful
     let _size = tree.size(); // for the proof alone: keys rise
     match take_apart(alloc, tree)? {
         Taken::Entries(entries) => {

@@ -25,7 +25,7 @@ pub(crate) fn kept_or_none<A: Augment, L: Leaf<A::Key, A::Val>, S: BlockSize>(
 ) -> TreeOver<A, L, S>
     ensures { result.entries ≡ if keeps then tree.entries else [] }
 {
-    let _least = tree.block_size();
+    let _least = tree.block_size(); // for the proof alone: the block size is lawful
     if keeps { tree } else { TreeOver::empty() }
 }
 
@@ -44,8 +44,8 @@ pub(crate) fn combine_lists<
     requires increasing { IsIncreasing A.Key.cmp few.now }
     ensures { IfOk result (λ out. out.entries ≡ W.combined how.now tree.now.entries few.now) }
 {
-    let _least = tree.block_size();
-    let _size = tree.size();
+    let _least = tree.block_size(); // for the proof alone: the block size is lawful
+    let _size = tree.size(); // for the proof alone: keys rise
     let entries = entries_of(alloc, tree)?;
     let both = how.combine_slices(alloc, &entries, few)?;
     tree_of(alloc, both)
@@ -59,7 +59,7 @@ fn combine_none<A: Augment, L: Leaf<A::Key, A::Val>, S: BlockSize, W: Combinatio
 ) -> Result<TreeOver<A, L, S>, NoMemory>
     ensures { IfOk result (λ out. out.entries ≡ W.combined how.now tree.now.entries []) }
 {
-    let _size = tree.size();
+    let _size = tree.size(); // for the proof alone: keys rise
     let whole = another_owner(alloc, tree)?;
     Ok(kept_or_none(whole, how.keeps_first()))
 }

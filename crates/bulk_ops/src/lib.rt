@@ -10,12 +10,12 @@ mod combining;
 mod differing;
 mod exchanged;
 mod few;
-mod meeting;
+mod intersecting;
 mod one;
 mod splitting;
 mod uniting;
 
 pub use bulk_passes::{filter, filter_alone, map_reduce, map_reduce_alone, plant, plant_alone};
 pub use differing::{difference, difference_alone};
-pub use meeting::{intersect, intersect_alone};
+pub use intersecting::{intersect, intersect_alone};
 pub use uniting::{union, union_alone};

@@ -38,7 +38,7 @@ fn changed<A: Augment, L: Leaf<A::Key, A::Val>, S: BlockSize, C: Ledger>(
 ) -> Result<TreeOver<A, L, S>, NoMemory>
     ensures { IfOk result (λ out. out.entries ≡ below A.Key.cmp tree.now.entries key.now ++ cons_option (entry_at key.now val) (above A.Key.cmp tree.now.entries key.now)) }
 {
-    let _size = tree.size();
+    let _size = tree.size(); // for the proof alone: keys rise
     match val {
         Some(val) => put(alloc, tree, key.share(alloc)?, val, steps),
         None => del(alloc, tree, key, steps),
@@ -80,8 +80,8 @@ fn one_counted<
     requires some { 0 < blank.parts }
     ensures { IfOk result (λ out. out.entries ≡ W.combined how.now tree.now.entries (entry.now ∷ [])) }
 {
-    let _least = tree.block_size();
-    let _size = tree.size();
+    let _least = tree.block_size(); // for the proof alone: the block size is lawful
+    let _size = tree.size(); // for the proof alone: keys rise
     let (key, val) = entry;
     let mut steps = Steps::<C>::start(blank);
     let old = get(alloc, tree, key, &mut steps)?;

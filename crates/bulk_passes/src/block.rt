@@ -58,7 +58,7 @@ fn reduce_run<K: Key, V: Share, L: Leaf<K, V>, M: Reduce<K, V>>(
     ensures moved { IfOk result (λ _. walk.new.index ≡ walk.old.index + count) }
     ensures place { L.fits_walk leaf.now walk.new }
 {
-    let _start = walk.index; // for the proof alone
+    let _start = walk.index; // for the proof alone: where the run begins
     let mut out = image_next(alloc, leaf, walk, how)?;
     for _at in 1..count {
         let image = image_next(alloc, leaf, walk, how)?;

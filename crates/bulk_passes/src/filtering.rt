@@ -53,7 +53,7 @@ impl<'a, A: Augment, L: Leaf<A::Key, A::Val>, S: BlockSize, T: Test<A::Key, A::V
                 val,
                 right,
             } if part.size() > SLICED_BLOCKS * part.block_size() => {
-                let middle = keep_entry::<A::Key, A::Val, T>(alloc, self.test, key, val)?;
+                let middle = passing_entry::<A::Key, A::Val, T>(alloc, self.test, key, val)?;
                 Ok(Opened::Split(left, middle, right))
             }
             _ => {
@@ -75,7 +75,7 @@ impl<'a, A: Augment, L: Leaf<A::Key, A::Val>, S: BlockSize, T: Test<A::Key, A::V
 }
 
 /// The entry, where it holds.
-fn keep_entry<K: Share, V: Share, T: Test<K, V>>(
+fn passing_entry<K: Share, V: Share, T: Test<K, V>>(
     alloc: Global,
     test: &T,
     key: &K,
@@ -98,8 +98,8 @@ fn filter_small<A: Augment, L: Leaf<A::Key, A::Val>, S: BlockSize, T: Test<A::Ke
 ) -> Result<TreeOver<A, L, S>, NoMemory>
     ensures { IfOk result (λ kept. kept.entries ≡ filtered (λ e. T.passes test.now e.0 e.1) tree.now.entries) }
 {
-    let _least = tree.block_size();
-    let _size = tree.size();
+    let _least = tree.block_size(); // for the proof alone: the block size is lawful
+    let _size = tree.size(); // for the proof alone: keys rise
     let entries = entries_of(alloc, tree)?;
     let kept = filtered_of(alloc, &entries, test)?;
     tree_of(alloc, kept)

@@ -2,8 +2,11 @@
 ghost use Rattle.map_model.specs.Balance.{IsBlockSize};
 
 use crate::runs::{Multiples, Sums, assert_has, assert_made, multiples_of};
-use aug_monoid::{First, NoMemory, Reduce, Second, Test};
-use batch_ops::{build, build_alone, multi_del, multi_del_alone, multi_put, multi_put_alone};
+use aug_monoid::{First, NoMemory, Reduce, Second, Share, Test};
+use batch_ops::{
+    build, build_alone, multi_del, multi_del_alone, multi_put, multi_put_alone, multi_put_into,
+    multi_put_into_alone,
+};
 use bulk_ops::{
     difference, difference_alone, filter, filter_alone, intersect, intersect_alone, map_reduce,
     map_reduce_alone, union, union_alone,
@@ -190,10 +193,27 @@ fn assert_batches_alone<R: Abort>(rt: &R, alloc: Global) {
     assert_made(rt, alloc, multi_del_alone(alloc, &put, KEYS), AFTER_DELS);
 }
 
+// Asserts what a map that is given up is after puts, first while it has another owner, which keeps its entries.
+fn assert_put_into<R: Threads + Abort + Sync>(rt: &R, alloc: Global) {
+    let built: Result<Sums<2>, NoMemory> = build_alone(alloc, PAIRS);
+    let built = built.expect(rt, "memory");
+    let copy = built.share(alloc).expect(rt, "memory");
+    let put = multi_put_into(rt, alloc, &FreeGate, Cut::new(2, 1), built, PUTS);
+    assert_made(rt, alloc, put, AFTER_PUTS);
+    assert_has(rt, alloc, &copy, BUILT);
+    assert_made(
+        rt,
+        alloc,
+        multi_put_into_alone(alloc, copy, PUTS),
+        AFTER_PUTS,
+    );
+}
+
 #[test]
 fn a_later_pair_of_a_key_wins(rt: HostRuntime) {
     assert_batches(&rt, rt.alloc());
     assert_batches_alone(&rt, rt.alloc());
+    assert_put_into(&rt, rt.alloc());
 }
 
 #[derive(Drop)]

@@ -1,4 +1,8 @@
 //! The set of what the items of a list give, gathered by halves of the list.
+//!
+//! An item gives keys by `Gives`. `set_of` answers all of them in order, each once: the list is cut in a part for each worker
+//! where the cut allows it, the keys of a part are sorted, and parts are merged. O(n * log n) work for n keys that are given. It
+//! refuses only for want of memory.
 #![tactic(auto)]
 
 mod gathering;

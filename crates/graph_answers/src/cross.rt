@@ -4,7 +4,7 @@ use versions::SyncState;
 
 fn state_crosses<S: SyncState>(_state: &S) {}
 
-/// A served graph is sent to and shared among threads.
+/// A served graph is sent to and shared among threads. It does nothing, and is there for the proof of that alone.
 pub fn answers_cross(served: &GraphAnswers) {
     state_crosses(served);
 }

@@ -5,7 +5,8 @@ use std::marker::{Send, Sync};
 
 fn crosses<T: Send + Sync>(_value: &T) {}
 
-/// Graphs, their edges and what searches answer are sent to and shared among threads.
+/// Graphs, their edges and what searches answer are sent to and shared among threads. It does nothing, and is there for the
+/// proof of that alone.
 pub fn graph_crosses(graph: &Graph, edge: &Edge, reached: &Reached) {
     crosses(graph);
     crosses(edge);

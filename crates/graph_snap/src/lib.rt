@@ -1,4 +1,9 @@
 //! Snapshots of a directed graph: maps from vertices to their sets of out-neighbours.
+//!
+//! A `Graph` is a map from vertices to `Neighbours`, whose fold is the number of edges; a set of neighbours is a map in blocks of
+//! gaps. `add_edges` and `cut_edges` take edges in any order and answer a new graph, which shares what it can with the old one;
+//! `bfs` answers what walks from a vertex reach, with the least numbers of edges. What is called with a runtime and a cut forks
+//! where the cut allows it, and answers the same on any number of threads. A call refuses only for want of memory.
 #![tactic(auto)]
 
 mod batch;

@@ -38,7 +38,7 @@ impl Operation for EdgeOp {
 
     #[tactic(auto, unfolding(crate::specs::Gserve::operation_of))]
     fn operation_at(row: &ByteRecord, place: usize) -> Result<EdgeOp, Code> {
-        let _size = row.len(); // for the proof alone
+        let _size = row.len(); // for the proof alone: places of fields fit their type
         let word = field_at(row, place);
         if word == b"add".as_slice() {
             let (from, to) = next_numbers(row, place + 1)?;

@@ -109,6 +109,7 @@ pub fn run_index<R: Threads + Sync, G: Gate>(
             &mut text,
         )?;
     }
+    // The replies to the documents that still wait; the index itself is wanted no more.
     let _index = settle(rt, alloc, gate, cut, index, &waiting, &mut text)?;
     Ok(text)
 }

@@ -75,7 +75,7 @@ impl Intervals {
     }
 
     /// Removes the interval from `left` to `right`, which the set need not have, as `add_mut` adds one. After a refusal the set is as
-    /// it was.
+    /// it was. O(log n) for n intervals.
     pub fn del_mut(&mut self, alloc: Global, left: u64, right: u64) -> Result<(), NoMemory>
         ensures after { OnOk result (self.new ≡ without_interval self.old (interval left right)) }
         ensures kept { OnErr result (self.new ≡ self.old) }

@@ -50,7 +50,7 @@ pub(crate) fn interval(left: u64, right: u64) -> Pair64
 }
 
 impl Intervals {
-    /// The set of no intervals. It takes no memory.
+    /// The set of no intervals. It takes no memory. O(1).
     pub fn new() -> Intervals
         ensures { result ≡ [] }
     {
@@ -59,7 +59,7 @@ impl Intervals {
         }
     }
 
-    /// How many intervals there are.
+    /// How many intervals there are. O(1).
     pub fn size(&self) -> u64
         ensures value { result ≡ length self.now }
         ensures intervals { IsIntervals self.now }
@@ -67,7 +67,7 @@ impl Intervals {
         self.map.size()
     }
 
-    /// Lends the map whose keys are the intervals.
+    /// Lends the map whose keys are the intervals. O(1).
     pub fn map(&self) -> &PlainMap<MaxRight>
         ensures { keys_of result.now.entries ≡ self.now }
     {

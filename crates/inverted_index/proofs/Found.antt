@@ -5,10 +5,10 @@ use Rattle.std.specs.Ordering.{nat_cmp}
 use Rattle.map_model.specs.Entries.{IsIncreasing}
 use Rattle.map_model.specs.SetOperations.{difference}
 use Rattle.inverted_index.specs.Documents.{IsIndex, documents_of}
-use Rattle.inverted_index.specs.Merging.{Lists, common, common_of, joined, postings_at}
+use Rattle.inverted_index.specs.Merging.{Lists, common, common_of, union_all, postings_at}
 use Rattle.inverted_index.specs.Queries.{AreTop, Document, all_of, any_of, having, hits_of, ranked, without}
 use Rattle.inverted_index.specs.Ranks.{AreLow}
-use Rattle.inverted_index.proofs.Gathering.{Rises, all_of-common, any_of-joined, common_from_first, having-postings, rises_at, without-difference}
+use Rattle.inverted_index.proofs.Gathering.{Rises, all_of-common, any_of-union_all, common_from_first, having-postings, rises_at, without-difference}
 use Rattle.inverted_index.specs.declared.hit.Hit.{Hit}
 use Rattle.inverted_index.proofs.Ranked.{top_ranked}
 use Rattle.inverted_index.proofs.Ranks.{low_fits}
@@ -21,11 +21,11 @@ module _ (D : List (ℕ × ℕ)) (P : Lists) (ds : List Document) (index : IsInd
       let Up : List (ℕ × ℕ) → Type 0 = λ m. IsIncreasing nat_cmp m in
       is ∙ all_of-common D P index terms sorted (subst Moved of moved) (subst Up is rises) ∙ ap (λ d. all_of d terms) view
 
-  pub any_found : (terms : List (List ℕ)) (lists slice : List (List (ℕ × ℕ))) (found : List (ℕ × ℕ)) → lists ≡ map (postings_at P) terms → slice ≡ lists → found ≡ joined [] slice → IsIncreasing nat_cmp found → found ≡ any_of ds terms
+  pub any_found : (terms : List (List ℕ)) (lists slice : List (List (ℕ × ℕ))) (found : List (ℕ × ℕ)) → lists ≡ map (postings_at P) terms → slice ≡ lists → found ≡ union_all [] slice → IsIncreasing nat_cmp found → found ≡ any_of ds terms
   any_found terms lists slice found of lent has rises =
-      let is : found ≡ joined [] (map (postings_at P) terms) = has ∙ ap (joined []) (lent ∙ of) in
+      let is : found ≡ union_all [] (map (postings_at P) terms) = has ∙ ap (union_all []) (lent ∙ of) in
       let Up : List (ℕ × ℕ) → Type 0 = λ m. IsIncreasing nat_cmp m in
-      is ∙ any_of-joined D P index terms (subst Up is rises) ∙ ap (λ d. any_of d terms) view
+      is ∙ any_of-union_all D P index terms (subst Up is rises) ∙ ap (λ d. any_of d terms) view
 
   pub rest_found : (s t : List ℕ) (a b found : List (ℕ × ℕ)) → a ≡ postings_at P s → b ≡ postings_at P t → found ≡ difference nat_cmp a b → found ≡ without ds s t
   rest_found s t a b found first second has =

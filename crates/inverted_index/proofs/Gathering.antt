@@ -18,7 +18,7 @@ use Rattle.map_model.proofs.Unions.{united, lookup-union}
 use Rattle.map_model.proofs.NatKeys.{nat_exact}
 use Rattle.inverted_index.specs.Terms.{bytes_cmp}
 use Rattle.inverted_index.specs.Documents.{IsIndex, documents_of, terms_in}
-use Rattle.inverted_index.specs.Merging.{Lists, common, common_of, joined, postings_at, sat}
+use Rattle.inverted_index.specs.Merging.{Lists, common, common_of, union_all, postings_at, sat}
 use Rattle.inverted_index.specs.Queries.{all_of, any_of, having, has, if_filled, inverted, total_in, weight_in, without}
 use Rattle.inverted_index.proofs.Documents.{lookup-terms_in, answered}
 
@@ -50,28 +50,28 @@ common_value q (p ∷ ps) w low =
 abbrev pub Rises : List (ℕ × ℕ) → Type 0
 Rises p = IsIncreasing nat_cmp p × ((q w : ℕ) → lookup nat_cmp p q ≡ Some w → w ≤ limit)
 
-lookup-joined : (ps : List (List (ℕ × ℕ))) (a : List (ℕ × ℕ)) (q : ℕ) → AllByRecursion Rises ps → lookup nat_cmp (joined a ps) q ≡ fold (λ o p. united sat o (lookup nat_cmp p q)) (lookup nat_cmp a q) ps
-lookup-joined [] a q r = refl
-lookup-joined (p ∷ ps) a q r = lookup-joined ps (union nat_cmp sat a p) q r.1 ∙ ap (λ o. fold (λ o p. united sat o (lookup nat_cmp p q)) o ps) (lookup-union nat_cmp_total nat_exact sat a p q r.0.0)
+lookup-union_all : (ps : List (List (ℕ × ℕ))) (a : List (ℕ × ℕ)) (q : ℕ) → AllByRecursion Rises ps → lookup nat_cmp (union_all a ps) q ≡ fold (λ o p. united sat o (lookup nat_cmp p q)) (lookup nat_cmp a q) ps
+lookup-union_all [] a q r = refl
+lookup-union_all (p ∷ ps) a q r = lookup-union_all ps (union nat_cmp sat a p) q r.1 ∙ ap (λ o. fold (λ o p. united sat o (lookup nat_cmp p q)) o ps) (lookup-union nat_cmp_total nat_exact sat a p q r.0.0)
 
-joined_more : (q : ℕ) (ps : List (List (ℕ × ℕ))) (w : ℕ) → w ≤ limit
+union_all_more : (q : ℕ) (ps : List (List (ℕ × ℕ))) (w : ℕ) → w ≤ limit
     → fold (λ o p. united sat o (lookup nat_cmp p q)) (Some w) ps ≡ Some (min (w + sum_by (weight_at q) ps) limit)
-joined_more q [] w low = ap Some (omega arith)
-joined_more q (p ∷ ps) w low =
+union_all_more q [] w low = ap Some (omega arith)
+union_all_more q (p ∷ ps) w low =
     let S = sum_by (weight_at q) ps in
     elim (lookup nat_cmp p q) as (λ o. fold (λ o p. united sat o (lookup nat_cmp p q)) (united sat (Some w) o) ps ≡ Some (min (w + (unwrap_or o 0 + S)) limit)) [
-      | None ↦ joined_more q ps w low ∙ ap Some (let same : min (w + S) limit ≡ min (w + (0 + S)) limit = omega arith in same)
-      | Some v ↦ joined_more q ps (sat w v) (omega arith) ∙ ap Some (let same : min (sat w v + S) limit ≡ min (w + (v + S)) limit = omega arith in same)
+      | None ↦ union_all_more q ps w low ∙ ap Some (let same : min (w + S) limit ≡ min (w + (0 + S)) limit = omega arith in same)
+      | Some v ↦ union_all_more q ps (sat w v) (omega arith) ∙ ap Some (let same : min (sat w v + S) limit ≡ min (w + (v + S)) limit = omega arith in same)
     ] ∙ ap (λ n. Some (min (w + n) limit)) (sym (sum_by-cons (weight_at q) p ps))
 
-joined_value : (q : ℕ) (ps : List (List (ℕ × ℕ))) → AllByRecursion Rises ps
+union_all_value : (q : ℕ) (ps : List (List (ℕ × ℕ))) → AllByRecursion Rises ps
     → fold (λ o p. united sat o (lookup nat_cmp p q)) None ps ≡ cond (list_any (has_at q) ps) (Some (min (sum_by (weight_at q) ps) limit)) None
-joined_value q [] r = refl
-joined_value q (p ∷ ps) r =
+union_all_value q [] r = refl
+union_all_value q (p ∷ ps) r =
     let S = sum_by (weight_at q) ps in
     elim (lookup nat_cmp p q) as (λ o. lookup nat_cmp p q ≡ o → fold (λ o p. united sat o (lookup nat_cmp p q)) (united sat None o) ps ≡ cond (is_some o || list_any (has_at q) ps) (Some (min (unwrap_or o 0 + S) limit)) None) [
-      | None ↦ λ _. joined_value q ps r.1 ∙ ap (λ n. cond (list_any (has_at q) ps) (Some n) None) (let same : min S limit ≡ min (0 + S) limit = omega arith in same)
-      | Some v ↦ λ is. joined_more q ps v (r.0.1 q v is)
+      | None ↦ λ _. union_all_value q ps r.1 ∙ ap (λ n. cond (list_any (has_at q) ps) (Some n) None) (let same : min S limit ≡ min (0 + S) limit = omega arith in same)
+      | Some v ↦ λ is. union_all_more q ps v (r.0.1 q v is)
     ] refl ∙ ap (λ n. cond (list_any (has_at q) (p ∷ ps)) (Some (min n limit)) None) (sym (sum_by-cons (weight_at q) p ps))
 
 -- two functions that agree
@@ -200,11 +200,11 @@ module _ (D : List (ℕ × ℕ)) (P : Lists) (index : IsIndex D P) where
       start q None h = fold_stays (λ o p. met sat o (lookup nat_cmp p q)) None (λ p. refl) ps
       start q (Some w) h = ap (λ n. fold (λ o p. met sat o (lookup nat_cmp p q)) (Some n) ps) (h w refl) ∙ common_value q ps 0 (omega arith) ∙ ap (λ n. cond (list_all (has_at q) ps) (Some (min n limit)) None) (let same : 0 + sum_by (weight_at q) ps ≡ sum_by (weight_at q) ps = omega arith in same)
 
-  pub any_of-joined : (terms : List (List ℕ)) → IsIncreasing nat_cmp (joined [] (map (postings_at P) terms)) → joined [] (map (postings_at P) terms) ≡ any_of (documents_of D P) terms
-  any_of-joined terms rises = answered (λ d. list_any (λ t. has t d) terms) (λ d. total_in d terms) P D (joined [] (map (postings_at P) terms)) index.known_rise rises (λ q.
+  pub any_of-union_all : (terms : List (List ℕ)) → IsIncreasing nat_cmp (union_all [] (map (postings_at P) terms)) → union_all [] (map (postings_at P) terms) ≡ any_of (documents_of D P) terms
+  any_of-union_all terms rises = answered (λ d. list_any (λ t. has t d) terms) (λ d. total_in d terms) P D (union_all [] (map (postings_at P) terms)) index.known_rise rises (λ q.
       let ps = map (postings_at P) terms in
-      lookup-joined ps [] q (all_rise terms)
-      ∙ joined_value q ps (all_rise terms)
+      lookup-union_all ps [] q (all_rise terms)
+      ∙ union_all_value q ps (all_rise terms)
       ∙ known_only (is_some (lookup nat_cmp D q)) (cond (list_any (has_at q) ps) (Some (min (sum_by (weight_at q) ps) limit)) None) (λ w is. known_any q terms (chosen (list_any (has_at q) ps) (min (sum_by (weight_at q) ps) limit) w is))
       ∙ ap (λ o. cond (is_some (lookup nat_cmp D q)) o None) (ap₂ (λ b n. cond b (Some (min n limit)) None)
       (list_any-map (has_at q) (postings_at P) terms ∙ any_alike (λ t. has_at q (postings_at P t)) (λ t. has t (q, terms_in P q)) (λ t. sym (has_term q t)) terms)

@@ -32,5 +32,5 @@ common_of known [] = known
 common_of known (p ∷ lists) = common p lists
 
 -- the documents that one of the lists has, or a, with the sums of their weights
-abbrev pub joined : List (ℕ × ℕ) → List (List (ℕ × ℕ)) → List (ℕ × ℕ)
-joined a lists = fold (λ x p. union nat_cmp sat x p) a lists
+abbrev pub union_all : List (ℕ × ℕ) → List (List (ℕ × ℕ)) → List (ℕ × ℕ)
+union_all a lists = fold (λ x p. union nat_cmp sat x p) a lists

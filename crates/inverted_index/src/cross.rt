@@ -5,7 +5,7 @@ use std::marker::{Send, Sync};
 
 fn crosses<T: Send + Sync>(_value: &T) {}
 
-/// An index and terms are sent to and shared among threads. It does nothing, and is there for the proof of that.
+/// An index and terms are sent to and shared among threads. It does nothing, and is there for the proof of that alone.
 pub fn index_crosses(index: &Index, term: &Term) {
     crosses(index);
     crosses(term);

@@ -2,7 +2,7 @@
 ghost use Rattle.std.specs.Prelude.{◌≡◌, ◌<◌, IfOk, IsPermutation, map, []};
 ghost use Rattle.std.specs.Ordering.{nat_cmp};
 ghost use Rattle.map_model.specs.Entries.{IsIncreasing};
-ghost use Rattle.inverted_index.specs.Merging.{common, common_of, joined, postings_at};
+ghost use Rattle.inverted_index.specs.Merging.{common, common_of, union_all, postings_at};
 ghost use Rattle.inverted_index.specs.Queries.{hits_of};
 
 use crate::hit::Hit;
@@ -76,7 +76,7 @@ fn common<R: Threads + Sync, G: Gate>(
     for list in lists {
         found = found.intersect(rt, alloc, gate, cut, list.map(), &SatSum)?;
     }
-    let _size = found.size();
+    let _size = found.size(); // for the proof alone: keys rise
     Ok(found)
 }
 
@@ -99,22 +99,22 @@ pub(crate) fn common_of<R: Threads + Sync, G: Gate>(
 }
 
 /// The documents that one of the lists has, with the sums of their weights.
-#[tactic(auto, using(crate::proofs::Steps::joined_more))]
-pub(crate) fn joined<R: Threads + Sync, G: Gate>(
+#[tactic(auto, using(crate::proofs::Steps::union_all_more))]
+pub(crate) fn union_all<R: Threads + Sync, G: Gate>(
     rt: &R,
     alloc: Global,
     gate: &G,
     cut: Cut,
     lists: &[Postings],
 ) -> Result<Weights, NoMemory>
-    ensures entries { IfOk result (λ found. found.entries ≡ joined [] lists.now) }
+    ensures entries { IfOk result (λ found. found.entries ≡ union_all [] lists.now) }
     ensures rises { IfOk result (λ found. IsIncreasing nat_cmp found.entries) }
 {
     let mut found = Weights::empty();
     for list in lists {
         found = found.union(rt, alloc, gate, cut, list.map(), &SatSum)?;
     }
-    let _size = found.size();
+    let _size = found.size(); // for the proof alone: keys rise
     Ok(found)
 }
 

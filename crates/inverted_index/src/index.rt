@@ -45,7 +45,7 @@ impl Drop for Index {
 }
 
 impl Index {
-    /// The index of no documents. It takes no memory.
+    /// The index of no documents. It takes no memory. O(1).
     pub fn new() -> Index
         ensures { result ≡ [] }
     {
@@ -55,7 +55,7 @@ impl Index {
         }
     }
 
-    /// How many documents there are.
+    /// How many documents there are. O(1).
     pub fn size(&self) -> u64
         ensures value { result ≡ length self.now }
         ensures rises { IsIncreasing nat_cmp self.now }
@@ -64,7 +64,7 @@ impl Index {
         self.known.size()
     }
 
-    /// Lends the map from the terms that documents have to their postings.
+    /// Lends the map from the terms that documents have to their postings. O(1).
     #[tactic(auto, using(crate::proofs::Gathering::inverted_lists))]
     pub fn map(&self) -> &Lists
         ensures rises { IsIncreasing bytes_cmp result.now.entries }

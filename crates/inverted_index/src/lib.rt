@@ -1,4 +1,9 @@
 //! An inverted index: documents with weighted terms, kept as postings by term.
+//!
+//! An `Index` is a map from terms to `Postings`, the maps from documents to weights, whose fold has the greatest weight.
+//! Documents are added one at a time or in batches (`add_doc`, `add_docs`), a term's weight being how often the text has it.
+//! `all_of`, `any_of` and `without` intersect, unite and take away postings; `top` answers the first documents by falling weight.
+//! An index is persistent: each answer shares what it can with the index before. A call refuses only for want of memory.
 #![tactic(auto)]
 
 mod adding;

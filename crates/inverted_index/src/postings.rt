@@ -49,7 +49,7 @@ impl Postings {
         Ok(Postings { weights })
     }
 
-    /// Lends the map from documents to weights.
+    /// Lends the map from documents to weights. O(1).
     pub fn map(&self) -> &Weights
         ensures { result.now.entries ≡ self.now }
     {

@@ -6,7 +6,7 @@ ghost use Rattle.map_model.specs.SetOperations.{difference};
 ghost use Rattle.inverted_index.specs.Merging.{postings_at};
 ghost use Rattle.inverted_index.specs.Queries.{AreTop, all_of, any_of, having, hits_of, top, without};
 
-use crate::finding::{by_size, common_of, find_list, find_lists, hits_of, joined};
+use crate::finding::{by_size, common_of, find_list, find_lists, hits_of, union_all};
 use crate::hit::Hit;
 use crate::index::{Index, Lists};
 use crate::postings::{Postings, Weights};
@@ -37,7 +37,8 @@ fn find_one<C: Ledger>(
 
 impl Index {
     /// The documents that have all terms, by rising number. The weight of a document is the saturating sum of its weights of
-    /// the terms, as often as they are named. Postings are intersected smallest first.
+    /// the terms, as often as they are named. Postings are intersected smallest first. O(k * m * log(n / m + 1)) work for k
+    /// terms, of which the rarest has m documents and the commonest n, beside the look-ups of the terms.
     pub fn all_of<R: Threads + Sync, G: Gate>(
         &self,
         rt: &R,
@@ -55,7 +56,7 @@ impl Index {
     }
 
     /// The documents that have one of the terms, by rising number, with weights as `all_of` has them; a term that a document
-    /// hasn't weighs 0 there.
+    /// hasn't weighs 0 there. O(k * n) work for k terms with n postings in all, beside the look-ups of the terms.
     pub fn any_of<R: Threads + Sync, G: Gate>(
         &self,
         rt: &R,
@@ -67,11 +68,12 @@ impl Index {
         ensures { IfOk result (λ hits. hits.items ≡ hits_of (any_of self.now terms.now)) }
     {
         let lists = find_lists::<Brand>(alloc, &self.lists, terms, Blank::new(1))?;
-        let found = joined(rt, alloc, gate, cut, &lists)?;
+        let found = union_all(rt, alloc, gate, cut, &lists)?;
         hits_of(alloc, &found)
     }
 
-    /// The documents that have one term and not another, by rising number, with the weight of the first.
+    /// The documents that have one term and not another, by rising number, with the weight of the first. O(m * log(n / m + 1))
+    /// work for m and n postings, m at most n, beside the look-ups of the terms.
     pub fn without<R: Threads + Sync, G: Gate>(
         &self,
         rt: &R,

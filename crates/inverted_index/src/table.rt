@@ -130,8 +130,7 @@ pub(crate) fn lists_of(alloc: Global, table: Table) -> Result<Lists, NoMemory>
     ensures rises { IfOk result (λ lists. IsIncreasing bytes_cmp lists.entries) }
     ensures lists { IfOk result (λ lists. (t : List ℕ) → lookup bytes_cmp lists.entries t ≡ option_map first_weights (get bytes_cmp table t)) }
 {
-    // that the terms ascend
-    let _terms = table.len();
+    let _terms = table.len(); // for the proof alone: terms rise
     let rows = rows_of(alloc, table)?;
     Lists::build_alone(alloc, &rows)
 }

@@ -46,6 +46,6 @@ pub(crate) fn weights_of(alloc: Global, text: &[u8]) -> Result<Vec<(Term, u64)>,
 {
     let terms = terms_of(alloc, text)?;
     let terms = terms.as_slice();
-    let _number = terms.len();
+    let _number = terms.len(); // for the proof alone: there are fewer than 2^64 terms
     tally(alloc, terms)
 }

@@ -5,13 +5,13 @@ use aug_monoid::{Augment, Leaf, NoMemory, Share};
 use std::alloc::Global;
 use tree_base::{BlockSize, TreeOver};
 
-/// A map in a struct of its own, as the recursions that count steps take it.
+/// A map in a struct of its own, as the recursions that count steps take it. It is there for the proof alone.
 #[derive(Drop)]
 pub struct Part<'a, A: Augment, L: Leaf<A::Key, A::Val>, S: BlockSize> {
     pub tree: &'a TreeOver<A, L, S>,
 }
 
-/// Another owner of a map's entries.
+/// Another owner of a map's entries. O(1). It is `share` with one clause, for the proofs of its callers alone.
 pub fn another_owner<A: Augment, L: Leaf<A::Key, A::Val>, S: BlockSize>(
     alloc: Global,
     tree: &TreeOver<A, L, S>,

@@ -5,7 +5,7 @@ use std::marker::{Send, Sync};
 
 fn crosses<T: Send + Sync>(_value: &T) {}
 
-/// Operations and outcomes are sent to and shared among threads.
+/// Operations and outcomes are sent to and shared among threads. It does nothing, and is there for the proof of that alone.
 pub fn op_crosses(op: &Op, outcome: &Outcome) {
     crosses(op);
     crosses(outcome);

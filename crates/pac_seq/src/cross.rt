@@ -6,7 +6,7 @@ use std::marker::{Send, Sync};
 
 fn crosses<T: Send + Sync>(_value: &T) {}
 
-/// A sequence and its cursors are sent to and shared among threads.
+/// A sequence and its cursors are sent to and shared among threads. It does nothing, and is there for the proof of that alone.
 pub fn seq_crosses<F: SyncFold, S: BlockSize + Send + Sync>(
     seq: &SeqOver<F, S>,
     cursor: &CursorOver<'_, F, S>,

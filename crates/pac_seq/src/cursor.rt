@@ -30,7 +30,7 @@ impl<'a, F: Fold, S: BlockSize> Model for CursorOver<'a, F, S> {
 
 impl<F: Fold, S: BlockSize> SeqOver<F, S> {
     /// Goes over the items in order, from a place on; over none where the place is at least the size. It lends them, and takes no
-    /// memory.
+    /// memory. An item takes O(1), and the first one of a block O(log n) in n items.
     pub fn cursor(&self, place: u64) -> CursorOver<'_, F, S>
         ensures { result ≡ drop place self.now.items }
     {

@@ -113,7 +113,8 @@ fn set_at<F: Fold, S: BlockSize>(
 }
 
 impl<F: Fold, S: BlockSize> SeqOver<F, S> {
-    /// The item at a place, counted from 0; none exactly where the place is at least the size. It takes no memory.
+    /// The item at a place, counted from 0; none exactly where the place is at least the size. It takes no memory. O(log n) in n
+    /// items.
     pub fn at(&self, alloc: Global, place: u64) -> Option<F::Item>
         ensures value { result ≡ slice_get self.now.items place }
         ensures none { IsNone result ↔ (length self.now.items ≤ place) }
@@ -125,7 +126,7 @@ impl<F: Fold, S: BlockSize> SeqOver<F, S> {
         }
     }
 
-    /// The same items with another at a place, which copies one path and one block.
+    /// The same items with another at a place, which copies one path and one block. O(log n + B) in n items.
     pub fn set(&self, alloc: Global, place: u64, item: F::Item) -> Result<SeqOver<F, S>, NoMemory>
         requires { place < length self.now.items }
         ensures { IfOk result (λ seq. seq.items ≡ slice_set self.now.items place item) }

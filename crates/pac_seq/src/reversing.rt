@@ -91,7 +91,7 @@ impl<F: Fold, S: BlockSize> SeqOver<F, S> {
         Ok(SeqOver { tree })
     }
 
-    /// `reverse` on one thread, which asks of items and sums nothing about threads.
+    /// `reverse` on one thread, which asks of items and sums nothing about threads. O(n) for n items.
     pub fn reverse_alone(&self, alloc: Global) -> Result<SeqOver<F, S>, NoMemory>
         ensures { IfOk result (λ seq. seq.items ≡ reverse self.now.items) }
     {

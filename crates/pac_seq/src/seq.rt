@@ -32,7 +32,7 @@ impl<F: Fold, S: BlockSize> Drop for SeqOver<F, S> {
 }
 
 impl<F: Fold, S: BlockSize> SeqOver<F, S> {
-    /// The sequence of no items. It takes no memory.
+    /// The sequence of no items. It takes no memory. O(1).
     pub fn new() -> SeqOver<F, S>
         requires { IsBlockSize S.SIZE }
         ensures items { result.items ≡ [] }
@@ -43,7 +43,7 @@ impl<F: Fold, S: BlockSize> SeqOver<F, S> {
         }
     }
 
-    /// How many items there are.
+    /// How many items there are. O(1).
     pub fn size(&self) -> u64
         ensures value { result ≡ length self.now.items }
         ensures fits { result < 2 ^ 60 }
@@ -59,7 +59,7 @@ impl<F: Fold, S: BlockSize> SeqOver<F, S> {
         self.tree.height()
     }
 
-    /// The sum of all items, which is stored. It takes no memory.
+    /// The sum of all items, which is stored. It takes no memory. O(1).
     pub fn sum(&self, alloc: Global) -> F::Sum
         ensures { result ≡ sum_of F.image_of F.unit_of F.met self.now.items }
     {

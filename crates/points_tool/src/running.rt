@@ -33,6 +33,7 @@ pub fn run_points<R: Threads + Sync, G: Gate>(
     for command in commands {
         board = run_one(rt, alloc, gate, cut, board, command, &mut text)?;
     }
+    // The points that still wait are added too, though nothing asks for them any more.
     let _points = board.settled(rt, alloc, gate, cut)?;
     Ok(text)
 }

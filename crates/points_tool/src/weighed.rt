@@ -24,7 +24,7 @@ fn point_at(row: &ByteRecord, place: usize) -> Result<Weighed, Code>
     ensures { let fields = fields_of row.now in
         result ≡ point_of (field fields place) (field fields (place + 1)) (field fields (place + 2)) }
 {
-    let _size = row.len(); // for the proof alone
+    let _size = row.len(); // for the proof alone: places of fields fit their type
     let x = number_at(row, place)?;
     let y = number_at(row, place + 1)?;
     let w = number_at(row, place + 2)?;

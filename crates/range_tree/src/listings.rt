@@ -74,7 +74,7 @@ impl Project<Places> for RowPoints {
 fn points_of(alloc: Global, rows: &RowMap) -> Result<Vec<(Pair64, u64)>, NoMemory>
     ensures { IfOk result (λ points. points.items ≡ points_of rows.now.entries) }
 {
-    let _number = rows.size();
+    let _number = rows.size(); // for the proof alone: keys rise
     let entries = rows.to_vec(alloc)?;
     let mut points = exchanged(alloc, &entries)?;
     points.as_mut_slice().sort_by_key(

@@ -36,7 +36,7 @@ impl Drop for Rows {
 }
 
 impl Rows {
-    /// Lends the map from (y, x) to weight.
+    /// Lends the map from (y, x) to weight. O(1).
     pub fn map(&self) -> &RowMap
         ensures { result.now.entries ≡ self.now }
     {

@@ -62,7 +62,7 @@ fn count_upto<C: Ledger>(
 ) -> Result<u64, NoMemory>
     ensures { IfOk result (λ count. count ≡ length (left_of pair64_cmp map.now.entries key.now)) }
 {
-    let _number = map.size();
+    let _number = map.size(); // for the proof alone: keys rise, and there are fewer than 2^60
     let less = map.rank(key, steps);
     match map.get(alloc, key, steps)? {
         Some(_) => Ok(less + 1),
@@ -97,7 +97,7 @@ fn total_between<C: Ledger>(
 ) -> Result<Total, NoMemory>
     ensures { IfOk result (λ total. total ≡ capped_total (slice pair64_cmp map.now.entries lo.now hi.now)) }
 {
-    let _number = map.size();
+    let _number = map.size(); // for the proof alone: keys rise, and there are fewer than 2^60
     let sum = map.aug_range(alloc, lo, hi, steps)?.sum;
     let count = count_between(alloc, map, lo, hi, steps)?;
     Ok(Total { sum, count })

@@ -58,7 +58,7 @@ impl Share for Points {
 }
 
 impl Points {
-    /// No points. It takes no memory.
+    /// No points. It takes no memory. O(1).
     pub fn new() -> Points
         ensures { result ≡ [] }
     {
@@ -67,7 +67,7 @@ impl Points {
         }
     }
 
-    /// How many points there are.
+    /// How many points there are. O(1).
     pub fn size(&self) -> u64
         ensures value { result ≡ length self.now }
         ensures increasing { IsIncreasing pair64_cmp self.now }
@@ -75,24 +75,25 @@ impl Points {
         self.map.size()
     }
 
-    /// Lends the map from (x, y) to weight.
+    /// Lends the map from (x, y) to weight. O(1).
     pub fn map(&self) -> &PointMap
         ensures { result.now.entries ≡ self.now }
     {
         &self.map
     }
 
-    /// The same points by (y, x), which are stored; none exactly where there are no points.
+    /// The same points by (y, x), which are stored; none exactly where there are no points. O(1).
     pub fn rows(&self) -> Option<&Rows>
         ensures none { IsNone result ↔ (self.now ≡ []) }
         ensures same { IfSome result (λ rows. rows.now ≡ by_rows self.now) }
     {
-        let _number = self.map.size();
+        let _number = self.map.size(); // for the proof alone: keys rise
         self.map.aug()
     }
 
     /// With these points set in order, so that a later point replaces an earlier one at its place. It is one bulk operation,
-    /// which forks where the cut allows it.
+    /// which forks where the cut allows it. O((n + k) * log(k + 1)) work for k points added to n, as all rows above a changed
+    /// block are made anew.
     #[tactic(auto, using(crate::proofs::Kept::all_after_puts))]
     pub fn add<R: Threads + Sync, G: Gate>(
         &self,
@@ -110,7 +111,7 @@ impl Points {
     }
 
     /// Without the points at these places (x, y); places that have none change nothing. It is one bulk operation, which forks
-    /// where the cut allows it.
+    /// where the cut allows it. The work of `add`.
     #[tactic(auto, using(crate::proofs::Kept::all_after_dels))]
     pub fn del<R: Threads + Sync, G: Gate>(
         &self,
@@ -130,7 +131,7 @@ impl Points {
     pub fn sum(&self, alloc: Global, rect: Rect) -> Result<Total, NoMemory>
         ensures { IfOk result (λ total. total ≡ total_of (inside rect self.now)) }
     {
-        let _number = self.map.size();
+        let _number = self.map.size(); // for the proof alone: keys rise
         let how = RowTotal {
             y1: rect.y1,
             y2: rect.y2,
@@ -143,7 +144,7 @@ impl Points {
     pub fn list(&self, alloc: Global, rect: Rect) -> Result<Vec<Point>, NoMemory>
         ensures { IfOk result (λ list. list.items ≡ map point_of (inside rect self.now)) }
     {
-        let _number = self.map.size();
+        let _number = self.map.size(); // for the proof alone: keys rise
         let how = RowPoints {
             y1: rect.y1,
             y2: rect.y2,

@@ -6,7 +6,7 @@ use std::marker::{Send, Sync};
 
 fn crosses<T: Send + Sync>(_value: &T) {}
 
-/// A sequence is sent to and shared among threads.
+/// A sequence is sent to and shared among threads. It does nothing, and is there for the proof of that alone.
 pub fn tree_crosses<F: SyncFold, S: BlockSize + Send + Sync>(tree: &SeqTree<F, S>) {
     crosses(tree);
 }

@@ -19,7 +19,7 @@ fn another<T: Share>(alloc: Global, value: &T) -> T
     }
 }
 
-/// Another owner of an item. It takes no memory.
+/// Another owner of an item. It takes no memory. O(1).
 pub fn share_item<F: Fold>(alloc: Global, item: &F::Item) -> F::Item
     ensures { result ≡ item.now }
 {
@@ -33,7 +33,7 @@ pub(crate) fn share_sum<F: Fold>(alloc: Global, sum: &F::Sum) -> F::Sum
     another(alloc, sum)
 }
 
-/// Appends items.
+/// Appends items. O(n) for n items.
 pub fn push_items<F: Fold>(
     alloc: Global,
     from: &[F::Item],
@@ -47,7 +47,7 @@ pub fn push_items<F: Fold>(
     Ok(())
 }
 
-/// The items in a vector of just their number.
+/// The items in a vector of just their number. O(n) for n items.
 pub fn copy_items<F: Fold>(alloc: Global, from: &[F::Item]) -> Result<Vec<F::Item>, NoMemory>
     ensures { IfOk result (λ copy. copy.items ≡ from.now) }
 {

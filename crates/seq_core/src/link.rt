@@ -16,7 +16,7 @@ impl<F: Fold, S: BlockSize> SeqTree<F, S> {
         ensures value { result ≡ S.SIZE }
         ensures lawful { IsBlockSize S.SIZE }
     {
-        let _ = self.look();
+        let _ = self.look(); // for the proof alone: the block size is lawful
         S::SIZE as u64
     }
 
@@ -93,7 +93,7 @@ impl<F: Fold, S: BlockSize> SeqTree<F, S> {
         Self::node(alloc, left, share_item::<F>(alloc, middle), right)
     }
 
-    /// The sequence of few items: none, one block, or two blocks with an item between them.
+    /// The sequence of few items: none, one block, or two blocks with an item between them. O(B).
     pub fn from_few(alloc: Global, items: Vec<F::Item>) -> Result<SeqTree<F, S>, NoMemory>
         requires block_size { IsBlockSize S.SIZE }
         requires small { length items.items ≤ 4 * S.SIZE }

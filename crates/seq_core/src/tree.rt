@@ -48,7 +48,7 @@ pub(crate) struct Node<F: Fold, S: BlockSize> {
     pub(crate) sum: F::Sum,
 }
 
-/// A sequence in a struct of its own, as recursions take it.
+/// A sequence in a struct of its own, as recursions take it. It is there for the proof alone.
 #[derive(Drop)]
 pub struct Part<'a, F: Fold, S: BlockSize> {
     pub tree: &'a SeqTree<F, S>,
@@ -74,7 +74,7 @@ impl<F: Fold, S: BlockSize> Model for SeqTree<F, S> {
 }
 
 impl<F: Fold, S: BlockSize> SeqTree<F, S> {
-    /// The sequence of no items. It takes no memory.
+    /// The sequence of no items. It takes no memory. O(1).
     pub fn new() -> SeqTree<F, S>
         requires { IsBlockSize S.SIZE }
         ensures { result ≡ record { items = []; height = 0 } }
@@ -84,7 +84,7 @@ impl<F: Fold, S: BlockSize> SeqTree<F, S> {
         }
     }
 
-    /// How many items there are.
+    /// How many items there are. O(1).
     pub fn size(&self) -> u64
         ensures value { result ≡ length self.now.items }
         ensures fits { result < 2 ^ 60 }
@@ -96,7 +96,7 @@ impl<F: Fold, S: BlockSize> SeqTree<F, S> {
         }
     }
 
-    /// How many nodes are on the longest path, which the number of items bounds.
+    /// How many nodes are on the longest path, which the number of items bounds. O(1).
     pub fn height(&self) -> u32
         ensures value { result ≡ self.now.height }
         ensures law { HeightLaw S.SIZE self.now.height (length self.now.items) }
@@ -108,7 +108,7 @@ impl<F: Fold, S: BlockSize> SeqTree<F, S> {
         }
     }
 
-    /// The sum of the items, which is stored. It takes no memory.
+    /// The sum of the items, which is stored. It takes no memory. O(1).
     pub fn sum(&self, alloc: Global) -> F::Sum
         ensures { result ≡ sum_of F.image_of F.unit_of F.met self.now.items }
     {

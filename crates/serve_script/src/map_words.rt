@@ -48,7 +48,7 @@ impl Operation for ServeOp {
 
     #[tactic(auto, unfolding(crate::specs::Serve::operation_of))]
     fn operation_at(row: &ByteRecord, place: usize) -> Result<ServeOp, Code> {
-        let _size = row.len(); // for the proof alone
+        let _size = row.len(); // for the proof alone: places of fields fit their type
         let word = field_at(row, place);
         if word == b"put".as_slice() {
             let (key, val) = next_numbers(row, place + 1)?;

@@ -125,7 +125,7 @@ pub(crate) fn applied<R: Threads + Sync, G: Gate>(
 ) -> Result<Graph, NoMemory>
     ensures { IfOk result (λ new. new ≡ after step graph.now batches.now) }
 {
-    let _ordered = graph.edges(); // for the proof alone
+    let _ordered = graph.edges(); // for the proof alone: edges rise
     let fates = fates_of(alloc, batches)?;
     let net = net_of(rt, alloc, gate, cut, &fates)?;
     changed(rt, alloc, gate, cut, graph, &net)

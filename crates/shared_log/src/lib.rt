@@ -118,7 +118,7 @@ impl<T: Share> Share for SharedLog<T> {
 
 fn crosses<T: Send + Sync>(_value: &T) {}
 
-/// A log is sent to and shared among threads.
+/// A log is sent to and shared among threads. It does nothing, and is there for the proof of that alone.
 pub(crate) fn log_crosses<T: Share + Send + Sync>(log: &SharedLog<T>) {
     crosses(log);
 }

@@ -113,7 +113,7 @@ pub(crate) fn refresh<A: Augment, L: Leaf<A::Key, A::Val>, S: BlockSize, C: Ledg
     ensures node { IsRefreshed A.base_of A.unit_of A.combined S.SIZE node.old.left node.old.key node.old.val node.old.right node.new }
     ensures cost { steps.new ≤ steps.old + 2 }
 {
-    let _least = node.left.block_size();
+    let _least = node.left.block_size(); // for the proof alone: the block size is lawful
     let Ok(fold) = TreeOver::fold_between(
         alloc,
         &node.left,

@@ -1,6 +1,8 @@
-//! Trees made of entries and of other trees. The calls count their steps for themselves, where callers have no bound to keep.
+//! Trees made of entries and of other trees: a tree of a list, the list of a tree, and trees joined around an entry.
 //!
-//! A call refuses only for want of memory.
+//! These are calls of `tree_base` and `join_core` with a counter of their own, for callers that have no bound on steps to keep.
+//! `tree_of` takes its entries from a vector and moves them; `tree_of_slice` shares them. O(n) for n entries, and O(log n) for a
+//! join. A call refuses only for want of memory.
 #![tactic(auto)]
 
 mod joining;

@@ -7,14 +7,14 @@ fn sends<T: Send>(_value: &T) {}
 
 fn crosses<T: Send + Sync>(_value: &T) {}
 
-/// Each end is sent to a thread of its own.
+/// Each end is sent to a thread of its own. It does nothing, and is there for the proof of that alone.
 pub(crate) fn ends_cross<S: SyncState>(writer: &Writer<S>, reader: &Reader<S>, notice: &Notice<S>) {
     sends(writer);
     sends(reader);
     sends(notice);
 }
 
-/// Why a reader took no version is sent to and shared among threads.
+/// Why a reader took no version is sent to and shared among threads. It does nothing, and is there for the proof of that alone.
 pub(crate) fn missed_crosses(missed: &Missed) {
     crosses(missed);
 }

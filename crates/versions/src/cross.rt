@@ -7,12 +7,12 @@ use std::marker::{Send, Sync};
 
 fn crosses<T: Send + Sync>(_value: &T) {}
 
-/// A version is sent to and shared among threads.
+/// A version is sent to and shared among threads. It does nothing, and is there for the proof of that alone.
 pub(crate) fn version_crosses<S: SyncState>(version: &Version<S>) {
     crosses(version);
 }
 
-/// So are batches and entries, with operations that are.
+/// So are batches and entries, with operations that are. It does nothing, and is there for the proof of that alone.
 pub(crate) fn entry_crosses<O: Share + Send + Sync>(batch: &Batch<O>, entry: &Entry<O>) {
     crosses(batch);
     crosses(entry);

@@ -15,11 +15,11 @@ use std::thread::Threads;
 use tree_base::{BlockSize, TreeOver};
 
 #[derive(Drop)]
-struct Meeting<'a, H> {
+struct Intersecting<'a, H> {
     how: &'a H,
 }
 
-impl<'a, K: Key, V: Share, H: Resolve<V>> Combination<K, V> for Meeting<'a, H> {
+impl<'a, K: Key, V: Share, H: Resolve<V>> Combination<K, V> for Intersecting<'a, H> {
     ghost combined = { λ work. intersection_of_entries K.cmp (H.resolved work.how.now) };
 
     ghost kept = { λ work. met (H.resolved work.how.now) };
@@ -75,7 +75,7 @@ pub fn intersect<
 ) -> Result<TreeOver<A, L, S>, NoMemory>
     ensures { IfOk result (λ tree. tree.entries ≡ intersection_of_entries A.Key.cmp (H.resolved how.now) a.now.entries b.now.entries) }
 {
-    combine(rt, alloc, gate, cut, a, b, &Meeting { how })
+    combine(rt, alloc, gate, cut, a, b, &Intersecting { how })
 }
 
 /// `intersect` on one thread, which asks of values and of `how` nothing about threads. O(m * log(n / m + 1)) for maps of m and n
@@ -88,5 +88,5 @@ pub fn intersect_alone<A: Augment, L: Leaf<A::Key, A::Val>, S: BlockSize, H: Res
 ) -> Result<TreeOver<A, L, S>, NoMemory>
     ensures { IfOk result (λ tree. tree.entries ≡ intersection_of_entries A.Key.cmp (H.resolved how.now) a.now.entries b.now.entries) }
 {
-    combine_alone(alloc, a, b, &Meeting { how })
+    combine_alone(alloc, a, b, &Intersecting { how })
 }

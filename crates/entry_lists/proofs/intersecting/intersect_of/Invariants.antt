@@ -1,7 +1,7 @@
 use Rattle.std.proofs.Common.{◌+◌, length}
 use Rattle.map_model.specs.SetOperations.{intersect}
 use Rattle.entry_lists.proofs.MergeSteps.{Merging}
-use Rattle.entry_lists.proofs.meeting.intersect_of.Given as goal
+use Rattle.entry_lists.proofs.intersecting.intersect_of.Given as goal
 
 abbrev pub invariant-loop-near : goal.invariant-loop-near
 invariant-loop-near g l = Merging g.K.Ord.cmp (intersect g.K.Ord.cmp (g.R.Resolve.resolved l.how)) l.out.items l.left l.right (intersect g.K.Ord.cmp (g.R.Resolve.resolved l.how) l.fn.a l.fn.b)

@@ -3,8 +3,8 @@ use Rattle.std.specs.declared.cmp.Ordering.TheVariants.{Less, Equal, Greater}
 use Rattle.map_model.specs.SetOperations.{intersect}
 use Rattle.std.proofs.lemmas.List.{nil_from_length}
 use Rattle.entry_lists.proofs.MergeSteps.{intersect_less, intersect_equal, intersect_greater, intersect_end, intersect_done}
-use Rattle.entry_lists.proofs.meeting.intersect_of.Goals as goal
-use Rattle.entry_lists.proofs.meeting.intersect_of.Goals.{in-Some+in_default-split_first, in_default}
+use Rattle.entry_lists.proofs.intersecting.intersect_of.Goals as goal
+use Rattle.entry_lists.proofs.intersecting.intersect_of.Goals.{in-Some+in_default-split_first, in_default}
 
 pub loop-near-preserved-in-Less : goal.loop-near-preserved-in-Less
 loop-near-preserved-in-Less g c =

@@ -1,6 +1,0 @@
-use Rattle.std.proofs.Common.{[], arith}
-use Rattle.inverted_index.proofs.Steps.{joined_more}
-use Rattle.inverted_index.proofs.finding.joined.Goals as goal
-
-pub loop-list-preserved : goal.loop-list-preserved
-loop-list-preserved g c = joined_more c.in_ok-found.found.entries [] c.args.lists.now c.loop-list.list-index c.list-item.result c.map.result.now.entries c.loop-list.found.entries c.in_ok-found.ensures c.map.ensures c.loop-list.invariant (omega arith) c.list-item.is
