@@ -1,7 +1,7 @@
 //! The tool graph over a `BTreeMap` of sorted adjacency lists, which a kept snapshot copies.
 use crate::records::{number, pairs, records};
 use crate::replies::line;
-use std::collections::{BTreeMap, HashSet};
+use std::collections::BTreeMap;
 
 #[derive(Clone, Default)]
 pub struct Graph {
@@ -40,15 +40,25 @@ impl Graph {
         [self.lists.len() as u64, self.edges]
     }
 
-    /// What can be reached from a vertex, with the distances, in the order in which it is found.
+    /// The out-neighbours of some vertices, in order, each once.
+    fn neighbours(&self, vertices: &[u64]) -> Vec<u64> {
+        let lists = vertices.iter().filter_map(|vertex| self.lists.get(vertex));
+        let mut near: Vec<u64> = lists.flatten().copied().collect();
+        near.sort_unstable();
+        near.dedup();
+        near
+    }
+
+    /// What can be reached from a vertex, with the distances, in the order of vertices. A front costs as much as what was found before.
     pub fn reached(&self, from: u64) -> Vec<(u64, u64)> {
-        let mut seen = HashSet::from([from]);
         let mut found = vec![(from, 0)];
-        let mut at = 0;
-        while let Some(&(vertex, distance)) = found.get(at) {
-            let near = self.lists.get(&vertex).into_iter().flatten();
-            found.extend(near.filter(|to| seen.insert(**to)).map(|to| (*to, distance + 1)));
-            at += 1;
+        let mut front = vec![from];
+        for distance in 1.. {
+            front = without(&self.neighbours(&front), &found);
+            if front.is_empty() {
+                break;
+            }
+            found = merged(&found, &front, distance);
         }
         found
     }
@@ -69,6 +79,28 @@ impl Graph {
     }
 }
 
+/// The vertices of a sorted vector that are not yet found.
+fn without(near: &[u64], found: &[(u64, u64)]) -> Vec<u64> {
+    let mut found = found.iter().map(|hit| hit.0).peekable();
+    let is_new = |vertex: &u64| {
+        while found.next_if(|old| old < vertex).is_some() {}
+        found.peek() != Some(vertex)
+    };
+    near.iter().copied().filter(is_new).collect()
+}
+
+/// What was found before and a front at its distance, both in order, as one vector in order.
+fn merged(found: &[(u64, u64)], front: &[u64], distance: u64) -> Vec<(u64, u64)> {
+    let mut all = Vec::with_capacity(found.len() + front.len());
+    let mut found = found.iter().copied().peekable();
+    for vertex in front {
+        all.extend(std::iter::from_fn(|| found.next_if(|hit| hit.0 < *vertex)));
+        all.push((*vertex, distance));
+    }
+    all.extend(found);
+    all
+}
+
 /// The root of a place, by halving its path.
 fn root(parents: &mut [usize], place: usize) -> usize {
     let mut at = place;
@@ -84,9 +116,8 @@ fn label(out: &mut Vec<u8>, graph: &Graph) {
     line(out, "comp", std::iter::once(found.len() as u64).chain(found.into_iter().flatten()));
 }
 
-/// Writes what a search found, by vertex.
-pub fn list_reached(out: &mut Vec<u8>, mut found: Vec<(u64, u64)>) {
-    found.sort_unstable();
+/// Writes what a search found.
+pub fn list_reached(out: &mut Vec<u8>, found: Vec<(u64, u64)>) {
     let numbers = found.iter().flat_map(|hit| [hit.0, hit.1]);
     line(out, "bfs", std::iter::once(found.len() as u64).chain(numbers));
 }

@@ -89,7 +89,7 @@ struct Served {
     order: Vec<u64>,
 }
 
-/// What a query finds, which is put in order and written after the lock is given back.
+/// What a query finds, which is written after the lock is given back.
 enum Found {
     Degree(u64),
     Reached(Vec<(u64, u64)>),

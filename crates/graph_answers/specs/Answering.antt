@@ -3,16 +3,16 @@ use Rattle.std.specs.Prelude.{◌∷◌, [], ℕ, List, codes, length}
 use Rattle.graph_snap.specs.Edges.{out_neighbours, sources}
 use Rattle.graph_snap.specs.Walks.{reach}
 use Rattle.graph_snap.specs.declared.edge.Reached.{Reached}
-use Rattle.graph_tool.specs.Effects.{numbers_of}
+use Rattle.graph_tool.specs.Effects.{reached_numbers}
 use Rattle.gserve_script.specs.declared.edge_words.EdgeQuery.{EdgeQuery}
 use Rattle.gserve_script.specs.declared.edge_words.EdgeQuery.TheVariants as query
-use Rattle.script.specs.Lines.{line_of, reply_of}
+use Rattle.script.specs.Lines.{counted, line_of, reply_of}
 
 abbrev pub degree_reply : List (ℕ × ℕ) → ℕ → List ℕ
 degree_reply g u = reply_of (codes "degree") (length (out_neighbours g u) ∷ [])
 
 abbrev pub reached_reply : List Reached → List ℕ
-reached_reply found = reply_of (codes "bfs") (length found ∷ numbers_of found)
+reached_reply found = reply_of (codes "bfs") (counted reached_numbers found)
 
 -- the answer to a query
 abbrev pub answer_of : List (ℕ × ℕ) → EdgeQuery → List ℕ

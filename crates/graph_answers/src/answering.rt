@@ -7,9 +7,9 @@ ghost use Rattle.graph_answers.specs.Answering.{answer_of, last_of};
 use crate::served::GraphAnswers;
 use aug_monoid::NoMemory;
 use graph_snap::Graph;
-use graph_tool::reached_numbers;
+use graph_tool::ReachedNumbers;
 use gserve_script::EdgeQuery;
-use script::{line, reply};
+use script::{counted, line, reply};
 use serve_text::Answers;
 use std::alloc::Global;
 
@@ -24,7 +24,7 @@ fn bfs(alloc: Global, graph: &Graph, u: u64, out: &mut Vec<u8>) -> Result<(), No
     ensures { OnOk result (out.new.items ≡ out.old.items ++ answering.reached_reply (reach graph.now u)) }
 {
     let found = graph.bfs_alone(alloc, u)?;
-    let numbers = reached_numbers(alloc, &found)?;
+    let numbers = counted::<ReachedNumbers, _, _>(alloc, &found)?;
     reply(out, "bfs", &numbers)
 }
 

@@ -1,6 +1,5 @@
 -- What the commands of the tool graph do, and what they reply.
 use Rattle.std.specs.Prelude.{[], ◌∷◌, ◌++◌, ℕ, List, Option, None, Some, codes, length, map, slice_get}
-use Rattle.std.specs.List.{flat_map}
 use Rattle.aug_monoid.specs.declared.pair64.Pair64.{Pair64}
 use Rattle.graph_comp.specs.Components.{components}
 use Rattle.graph_comp.specs.declared.labelled.Labelled.{Labelled}
@@ -9,7 +8,7 @@ use Rattle.graph_snap.specs.Walks.{reach}
 use Rattle.graph_snap.specs.declared.edge.Edge.{Edge}
 use Rattle.graph_snap.specs.declared.edge.Reached.{Reached}
 use Rattle.graph_tool.specs.declared.graphs.Graphs as rust
-use Rattle.script.specs.Lines.{line_of}
+use Rattle.script.specs.Lines.{counted, line_of}
 use Rattle.graph_tool.specs.declared.commands.GraphCommand.{GraphCommand}
 use Rattle.graph_tool.specs.declared.commands.GraphCommand.TheVariants as command
 
@@ -32,19 +31,19 @@ graph_after s (command.Cut place edges) = record { present = without_edges s.pre
 graph_after s (command.Keep place) = record { present = s.present; kept = s.kept ++ s.present ∷ [] }
 graph_after s c = s
 
--- vertices and their distances, one after another
-abbrev pub numbers_of : List Reached → List ℕ
-numbers_of found = flat_map (λ r. r.vertex ∷ r.distance ∷ []) found
+-- a vertex and its distance
+abbrev pub reached_numbers : Reached → List ℕ
+reached_numbers r = r.vertex ∷ r.distance ∷ []
 
 abbrev pub reached_line : List Reached → List ℕ
-reached_line found = line_of (codes "bfs") (length found ∷ numbers_of found)
+reached_line found = line_of (codes "bfs") (counted reached_numbers found)
 
--- vertices and the least vertices of their components, one after another
-abbrev pub component_numbers : List Labelled → List ℕ
-component_numbers found = flat_map (λ l. l.vertex ∷ l.label ∷ []) found
+-- a vertex and the least vertex of its component
+abbrev pub label_numbers : Labelled → List ℕ
+label_numbers l = l.vertex ∷ l.label ∷ []
 
 abbrev pub components_line : List Labelled → List ℕ
-components_line found = line_of (codes "comp") (length found ∷ component_numbers found)
+components_line found = line_of (codes "comp") (counted label_numbers found)
 
 -- what a search from u finds in a graph that may be absent
 abbrev pub search_line : Option (List (ℕ × ℕ)) → ℕ → List ℕ

@@ -8,5 +8,5 @@ mod replies;
 mod running;
 
 pub use commands::GraphCommand;
-pub use replies::reached_numbers;
+pub use replies::ReachedNumbers;
 pub use running::run_graph;

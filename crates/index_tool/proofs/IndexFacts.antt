@@ -12,7 +12,8 @@ use Rattle.script.specs.Records.{Fields}
 use Rattle.script.specs.Rows.{has_verb}
 use Rattle.script.specs.Shapes.{number_text}
 use Rattle.index_tool.specs.Terms as shape
-use Rattle.index_tool.specs.Terms.{IsTerm, is_term, term_in, term_of, terms_of}
+use Rattle.inverted_index.specs.Terms.{is_term}
+use Rattle.index_tool.specs.Terms.{IsTerm, term_in, term_of, terms_of}
 use Rattle.script.specs.declared.fault.Code.{Code}
 use Rattle.index_tool.specs.declared.commands.IndexCommand.{IndexCommand}
 

@@ -1,7 +1,7 @@
 -- What the commands of the tool index do to the documents, and what they reply.
-use Rattle.std.specs.Prelude.{ℕ, List, [], ◌∷◌, map, length, codes, slice_index_or, ⊤}
+use Rattle.std.specs.Prelude.{ℕ, List, [], ◌∷◌, map, codes, slice_index_or, ⊤}
 use Rattle.std.specs.List.{flat_map}
-use Rattle.script.specs.Lines.{line_of}
+use Rattle.script.specs.Lines.{counted, line_of}
 use Rattle.index_tool.specs.declared.commands.IndexCommand.{IndexCommand}
 use Rattle.index_tool.specs.declared.commands.IndexCommand.TheVariants as command
 use Rattle.inverted_index.specs.Added.{outcome, outcomes_of, with_doc}
@@ -12,12 +12,12 @@ use Rattle.inverted_index.specs.declared.doc.Outcome.{Outcome}
 use Rattle.inverted_index.specs.declared.doc.Outcome.TheVariants as outcomes
 use Rattle.inverted_index.specs.declared.hit.Hit.{Hit}
 
--- how many documents there are, and then the number and the weight of each
-abbrev pub docs_numbers : List Hit → List ℕ
-docs_numbers hits = length hits ∷ flat_map (λ h. h.doc ∷ h.weight ∷ []) hits
+-- the number and the weight of a document that was found
+abbrev pub hit_numbers : Hit → List ℕ
+hit_numbers h = h.doc ∷ h.weight ∷ []
 
 abbrev pub docs_line : List (ℕ × ℕ) → List ℕ
-docs_line answers = line_of (codes "docs") (docs_numbers (hits_of answers))
+docs_line answers = line_of (codes "docs") (counted hit_numbers (hits_of answers))
 
 -- a term as it is named, made small
 abbrev pub named : List (List ℕ) → ℕ → List ℕ

@@ -1,7 +1,6 @@
 -- Lawful terms, and the records that have them.
-use Rattle.std.specs.Prelude.{◌≡◌, ℕ, [], ◌∷◌, List, Bool, true, false, Result, Ok, Err, drop, if◌then◌else◌}
-use Rattle.std.specs.List.{list_all}
-use Rattle.std.specs.Char.{is_ascii_alphanumeric}
+use Rattle.std.specs.Prelude.{◌≡◌, ℕ, [], ◌∷◌, List, true, Result, Ok, Err, drop, if◌then◌else◌}
+use Rattle.inverted_index.specs.Terms.{is_term}
 use Rattle.script.specs.Fields.{field, number_in}
 use Rattle.script.specs.Records.{Fields}
 use Rattle.script.specs.Results.{◌>>=◌}
@@ -9,11 +8,7 @@ use Rattle.script.specs.Shapes.{with_at_least, with_fields}
 use Rattle.script.specs.declared.fault.Code.{Code}
 use Rattle.script.specs.declared.fault.Code.TheVariants as code
 
--- a term: at least one byte, all of them ASCII letters or digits
-abbrev pub is_term : List ℕ → Bool
-is_term [] = false
-is_term (b ∷ bs) = list_all is_ascii_alphanumeric (b ∷ bs)
-
+-- a term as a record names it, whose letters may be capital
 abbrev pub IsTerm : List ℕ → Type 0
 IsTerm bytes = is_term bytes ≡ true
 

@@ -1,41 +1,37 @@
 //! What queries answer.
-ghost use Rattle.std.specs.Prelude.{◌≡◌, ◌++◌, ◌≤◌, IfOk, OnOk, codes, length, map};
+ghost use Rattle.std.specs.Prelude.{◌≡◌, ◌++◌, IfOk, OnOk, codes, length, map};
 ghost use Rattle.std.specs.List.{AllByRecursion};
-ghost use Rattle.index_tool.specs.Effects.{docs_numbers, named};
+ghost use Rattle.index_tool.specs.Effects.{hit_numbers, named};
 ghost use Rattle.inverted_index.specs.Queries.{all_of, any_of, hits_of, top, without};
 ghost use Rattle.inverted_index.specs.Terms.{small};
 ghost use Rattle.index_tool.specs.Terms.{IsTerm};
-ghost use Rattle.script.specs.Lines.{line_of};
+ghost use Rattle.script.specs.Lines.{counted, line_of};
 
 use crate::terms::{term_of, terms_of};
 use aug_monoid::NoMemory;
 use fork_join::{Cut, Gate};
 use inverted_index::{Hit, Index};
-use script::{Items, line};
+use script::{Items, Numbers, counted_line};
 use std::alloc::Global;
 use std::marker::Sync;
 use std::thread::Threads;
 
-#[tactic(auto, using(crate::proofs::Numbered::numbers_more))]
-fn docs_numbers(alloc: Global, hits: &[Hit]) -> Result<Vec<u64>, NoMemory>
-    ensures { IfOk result (λ numbers. numbers.items ≡ docs_numbers hits.now) }
-{
-    let mut numbers = Vec::with_capacity(alloc, hits.len().saturating_mul(2).saturating_add(1))?;
-    numbers.push(hits.len() as u64)?;
-    for hit in hits {
-        numbers.push(hit.doc)?;
-        numbers.push(hit.weight)?;
+// The number and the weight of a document that was found.
+struct HitNumbers;
+
+impl Numbers<Hit, 2> for HitNumbers {
+    ghost numbers_of = { hit_numbers };
+
+    fn numbers(hit: &Hit) -> [u64; 2] {
+        [hit.doc, hit.weight]
     }
-    Ok(numbers)
 }
 
-/// Appends a line for documents that were found.
+/// Appends the line that counts and lists documents that were found.
 pub(crate) fn docs_line(alloc: Global, text: &mut Vec<u8>, hits: &[Hit]) -> Result<(), NoMemory>
-    ensures { OnOk result (text.new.items ≡ text.old.items ++ line_of (codes "docs") (docs_numbers hits.now)) }
+    ensures { OnOk result (text.new.items ≡ text.old.items ++ line_of (codes "docs") (counted hit_numbers hits.now)) }
 {
-    let numbers = docs_numbers(alloc, hits)?;
-    line(text, "docs", &numbers)?;
-    Ok(())
+    counted_line::<HitNumbers, _, _>(alloc, text, "docs", hits)
 }
 
 pub(crate) fn all_of<R: Threads + Sync, G: Gate>(

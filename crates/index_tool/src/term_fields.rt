@@ -1,30 +1,14 @@
 //! The fields of a record that are terms.
-ghost use Rattle.std.specs.Prelude.{◌≡◌, ◌≤◌, drop, length};
-ghost use Rattle.std.specs.Char.{is_ascii_alphanumeric};
-ghost use Rattle.std.specs.List.{list_all};
+ghost use Rattle.std.specs.Prelude.{◌≤◌, drop, length};
 ghost use Rattle.csv.specs.Records.{fields_of};
-ghost use Rattle.index_tool.specs.Terms.{is_term, number_term, some_terms, term_in, terms_of, two_terms};
+ghost use Rattle.index_tool.specs.Terms.{number_term, some_terms, term_in, terms_of, two_terms};
 ghost use Rattle.script.specs.Results.{GivesCode};
 
 use csv::ByteRecord;
+use inverted_index::is_term;
 use script::fields::{bytes_at, field_at, number_at};
 use script::{Code, Items, RecordFault};
 use std::alloc::Global;
-
-fn is_alphanumeric(bytes: &[u8]) -> bool
-    ensures { result ≡ list_all is_ascii_alphanumeric bytes.now }
-{
-    bytes.iter().all(|byte| byte.is_ascii_alphanumeric())
-}
-
-fn is_term(bytes: &[u8]) -> bool
-    ensures { result ≡ is_term bytes.now }
-{
-    match bytes {
-        [] => false,
-        _ => is_alphanumeric(bytes),
-    }
-}
 
 // The term at a place.
 fn term_at(alloc: Global, row: &ByteRecord, place: usize) -> Result<Items<u8>, RecordFault>

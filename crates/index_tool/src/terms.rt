@@ -10,7 +10,6 @@ use script::Items;
 use std::alloc::Global;
 
 /// A term, made small.
-#[tactic(auto, using(crate::proofs::Lawful::same_term))]
 pub(crate) fn term_of(alloc: Global, bytes: &[u8]) -> Result<Term, NoMemory>
     requires { IsTerm bytes.now }
     ensures { IfOk result (λ term. term ≡ small bytes.now) }

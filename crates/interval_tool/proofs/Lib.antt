@@ -1,2 +1,1 @@
 pub mod IntervalFacts
-pub mod Ends

@@ -1,9 +1,8 @@
 -- What each command of the tool interval does to the intervals, and replies.
 use Rattle.std.specs.Prelude.{ℕ, List, [], ◌∷◌, codes, length}
-use Rattle.std.specs.List.{flat_map}
 use Rattle.aug_monoid.specs.declared.pair64.Pair64.{Pair64}
 use Rattle.interval_map.specs.Intervals.{interval, overlap, stab, with_interval, without_interval}
-use Rattle.script.specs.Lines.{line_of}
+use Rattle.script.specs.Lines.{counted, line_of}
 use Rattle.interval_tool.specs.declared.commands.IntervalCommand.{IntervalCommand}
 use Rattle.interval_tool.specs.declared.commands.IntervalCommand.TheVariants as command
 
@@ -16,9 +15,9 @@ interval_after is (command.Any place p) = is
 interval_after is (command.Stab place p) = is
 interval_after is (command.Over place lo hi) = is
 
--- the ends of each interval, one interval after another
-abbrev pub ends_of : List Pair64 → List ℕ
-ends_of is = flat_map (λ i. i.first ∷ i.second ∷ []) is
+-- the ends of an interval
+abbrev pub ends_of : Pair64 → List ℕ
+ends_of i = i.first ∷ i.second ∷ []
 
 -- a word and a count
 abbrev pub count_line : List ℕ → List Pair64 → List ℕ
@@ -31,7 +30,7 @@ any_line (i ∷ is) = line_of (codes "yes") []
 
 -- how many intervals there are, and which
 abbrev pub hits_line : List Pair64 → List ℕ
-hits_line is = line_of (codes "hits") (length is ∷ ends_of is)
+hits_line is = line_of (codes "hits") (counted ends_of is)
 
 -- the reply to a command, from the intervals before it
 abbrev pub interval_reply : List Pair64 → IntervalCommand → List ℕ

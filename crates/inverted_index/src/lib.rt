@@ -30,4 +30,4 @@ pub use doc::{AddedDocs, Doc, Outcome};
 pub use hit::Hit;
 pub use index::{Index, Lists};
 pub use postings::{Postings, Weights};
-pub use term::{Term, TermFault};
+pub use term::{Term, TermFault, is_term};

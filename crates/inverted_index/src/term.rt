@@ -61,8 +61,9 @@ fn are_letters_or_digits(bytes: &[u8]) -> bool
     bytes.iter().all(|b| b.is_ascii_alphanumeric())
 }
 
+/// Whether a term can be made of bytes: at least one, all of them ASCII letters or digits.
 #[tactic(auto, using(crate::proofs::Texts::filled_all, crate::proofs::Texts::filled_none))]
-fn is_term(bytes: &[u8]) -> bool
+pub fn is_term(bytes: &[u8]) -> bool
     ensures { result ≡ is_term bytes.now }
 {
     !bytes.is_empty() && are_letters_or_digits(bytes)

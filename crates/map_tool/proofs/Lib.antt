@@ -1,5 +1,4 @@
 pub mod Counting
 pub mod Greatest
 pub mod Kept
-pub mod Numbered
 pub mod Overlaps

@@ -7,11 +7,11 @@ use Rattle.map_model.specs.Operations.{after, build, dels, puts}
 use Rattle.map_model.specs.Parts.{next, prev, rank, select, slice}
 use Rattle.map_model.specs.SetOperations.{difference, intersect, union}
 use Rattle.aug_monoid.specs.declared.totals.Totals.{Totals}
-use Rattle.script.specs.Lines.{line_of}
+use Rattle.script.specs.Lines.{counted, line_of}
 use Rattle.map_records.specs.declared.commands.MapCommand.{MapCommand}
 use Rattle.map_records.specs.declared.commands.MapCommand.TheVariants as command
 use Rattle.map_tool.specs.Registers.{Registers, maps_of, register, with_register}
-use Rattle.map_tool.specs.Values.{entries_of, numbers_of, overlaps, range_totals, resolved_by, totals_of, values_from, values_within}
+use Rattle.map_tool.specs.Values.{entries_of, entry_numbers, overlaps, range_totals, resolved_by, totals_of, values_from, values_within}
 
 -- a register gets a map, and the reply is its size; or no register changes, and the reply is a line
 pub data Effect : Type 0 where
@@ -32,7 +32,7 @@ abbrev pub totals_line : Totals → List ℕ
 totals_line t = line_of (codes "aug") (t.sum ∷ t.greatest ∷ [])
 
 abbrev pub list_line : List (ℕ × ℕ) → List ℕ
-list_line m = line_of (codes "list") (length m ∷ numbers_of m)
+list_line m = line_of (codes "list") (counted entry_numbers m)
 
 -- a register gets one map behind another, unless they overlap
 abbrev pub cat : ℕ → List (ℕ × ℕ) → List (ℕ × ℕ) → Effect

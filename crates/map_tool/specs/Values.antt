@@ -1,6 +1,6 @@
 -- What the tool map says of the values of a map, and of two maps.
 use Rattle.std.specs.Prelude.{ℕ, ◌+◌, ◌-◌, ◌^◌, ◌&&◌, List, [], ◌∷◌, Bool, false, not, Option, Some, None, length, map, min, max, nat_le, nat_lt, slice_get}
-use Rattle.std.specs.List.{filter, flat_map}
+use Rattle.std.specs.List.{filter}
 use Rattle.std.specs.Ordering.{nat_cmp}
 use Rattle.map_model.specs.Fold.{fold_of, range_fold}
 use Rattle.aug_monoid.specs.Totals.{totals_base, totals_combine, totals_unit}
@@ -36,9 +36,9 @@ resolved_by how.Max a b = max a b
 abbrev pub entries_of : List Pair64 → List (ℕ × ℕ)
 entries_of pairs = map (λ p. (p.first, p.second)) pairs
 
--- the keys and values of entries, one after another
-abbrev pub numbers_of : List (ℕ × ℕ) → List ℕ
-numbers_of m = flat_map (λ e. e.0 ∷ e.1 ∷ []) m
+-- the key and the value of an entry
+abbrev pub entry_numbers : ℕ × ℕ → List ℕ
+entry_numbers e = e.0 ∷ e.1 ∷ []
 
 -- a last entry whose key isn't less than that of a first one
 abbrev pub ends_meet : Option (ℕ × ℕ) → Option (ℕ × ℕ) → Bool

@@ -8,12 +8,12 @@ ghost use Rattle.map_tool.specs.Effects.{entry_line, found_line, list_line, tota
 ghost use Rattle.map_tool.specs.Values.{range_totals, totals_of, values_within};
 ghost use Rattle.script.specs.Lines.{line_of};
 
-use crate::entries::counted_numbers;
+use crate::entries::EntryNumbers;
 use crate::registers::Register;
 use crate::values::{Greatest, Within};
 use aug_monoid::{NoMemory, Steps, Totals};
 use fork_join::{Cut, Gate};
-use script::line;
+use script::{counted_line, line};
 use std::alloc::Global;
 use std::marker::Sync;
 use std::sync::ledger::Ledger;
@@ -176,8 +176,7 @@ pub(crate) fn list(
 {
     let part = map.slice(alloc, &lo, &hi)?;
     let entries = part.to_vec(alloc)?;
-    let numbers = counted_numbers(alloc, &entries)?;
-    line(text, "list", &numbers)
+    counted_line::<EntryNumbers, _, _>(alloc, text, "list", &entries)
 }
 
 // How many values lie from one to another.

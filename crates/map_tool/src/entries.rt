@@ -1,8 +1,9 @@
 //! Entries as the script has them, and as its lines want them.
-ghost use Rattle.std.specs.Prelude.{◌≡◌, ◌∷◌, length, IfOk};
-ghost use Rattle.map_tool.specs.Values.{entries_of, numbers_of};
+ghost use Rattle.std.specs.Prelude.{◌≡◌, IfOk};
+ghost use Rattle.map_tool.specs.Values.{entries_of, entry_numbers};
 
 use aug_monoid::{NoMemory, Pair64};
+use script::Numbers;
 use std::alloc::Global;
 
 /// Pairs as entries.
@@ -16,16 +17,13 @@ pub(crate) fn entries_of(alloc: Global, pairs: &[Pair64]) -> Result<Vec<(u64, u6
     Ok(entries)
 }
 
-/// How many entries there are, and then the key and the value of each.
-#[tactic(auto, using(crate::proofs::Numbered::numbers_more))]
-pub(crate) fn counted_numbers(alloc: Global, entries: &[(u64, u64)]) -> Result<Vec<u64>, NoMemory>
-    ensures { IfOk result (λ numbers. numbers.items ≡ length entries.now ∷ numbers_of entries.now) }
-{
-    let mut numbers = Vec::with_capacity(alloc, entries.len().saturating_mul(2).saturating_add(1))?;
-    numbers.push(entries.len() as u64)?;
-    for (key, val) in entries {
-        numbers.push(*key)?;
-        numbers.push(*val)?;
+/// The key and the value of an entry.
+pub(crate) struct EntryNumbers;
+
+impl Numbers<(u64, u64), 2> for EntryNumbers {
+    ghost numbers_of = { entry_numbers };
+
+    fn numbers(entry: &(u64, u64)) -> [u64; 2] {
+        [entry.0, entry.1]
     }
-    Ok(numbers)
 }

@@ -1,3 +1,2 @@
 pub mod WeighedFacts
 mod Waiting
-mod Numbered

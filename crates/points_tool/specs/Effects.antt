@@ -1,6 +1,5 @@
 -- What a command of the tool points replies, and the points after it.
 use Rattle.std.specs.Prelude.{ℕ, List, [], ◌∷◌, codes, length, map}
-use Rattle.std.specs.List.{flat_map}
 use Rattle.aug_monoid.specs.declared.pair64.Pair64.{Pair64}
 use Rattle.aug_monoid.specs.Exact.{pair64_cmp}
 use Rattle.map_model.specs.Operations.{after, dels, puts}
@@ -8,7 +7,7 @@ use Rattle.range_tree.specs.declared.points.Point.{Point}
 use Rattle.range_tree.specs.declared.points.Rect.{Rect}
 use Rattle.range_tree.specs.declared.points.Total.{Total}
 use Rattle.range_tree.specs.Points.{inside, point_of, total_of}
-use Rattle.script.specs.Lines.{line_of}
+use Rattle.script.specs.Lines.{counted, line_of}
 use Rattle.points_tool.specs.declared.weighed.Weighed.{Weighed}
 use Rattle.points_tool.specs.declared.commands.PointsCommand.{PointsCommand}
 use Rattle.points_tool.specs.declared.commands.PointsCommand.TheVariants as command
@@ -23,12 +22,12 @@ rect_of x1 x2 y1 y2 = record { x1 = x1; x2 = x2; y1 = y1; y2 = y2 }
 abbrev pub total_line : Total → List ℕ
 total_line total = line_of (codes "sum") (total.sum ∷ total.count ∷ [])
 
--- x, y and weight of each point, one after another
-abbrev pub numbers_of : List Point → List ℕ
-numbers_of points = flat_map (λ p. p.x ∷ p.y ∷ p.weight ∷ []) points
+-- x, y and weight of a point
+abbrev pub point_numbers : Point → List ℕ
+point_numbers p = p.x ∷ p.y ∷ p.weight ∷ []
 
 abbrev pub points_line : List Point → List ℕ
-points_line points = line_of (codes "points") (length points ∷ numbers_of points)
+points_line points = line_of (codes "points") (counted point_numbers points)
 
 abbrev pub points_after : List (Pair64 × ℕ) → PointsCommand → List (Pair64 × ℕ)
 points_after m (command.Add place points) = after pair64_cmp m (puts (weighed_entries points))

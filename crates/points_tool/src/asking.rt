@@ -1,12 +1,23 @@
 //! Replies about the points in a rectangle.
-ghost use Rattle.std.specs.Prelude.{◌≡◌, ◌++◌, ◌∷◌, length, map, IfOk, OnOk};
-ghost use Rattle.points_tool.specs.Effects.{numbers_of, points_line, rect_of, total_line};
+ghost use Rattle.std.specs.Prelude.{◌≡◌, ◌++◌, map, OnOk};
+ghost use Rattle.points_tool.specs.Effects.{point_numbers, points_line, rect_of, total_line};
 ghost use Rattle.range_tree.specs.Points.{inside, point_of, total_of};
 
 use aug_monoid::NoMemory;
 use range_tree::{Point, Points, Rect};
-use script::line;
+use script::{Numbers, counted_line, line};
 use std::alloc::Global;
+
+// The place and the weight of a point.
+struct PointNumbers;
+
+impl Numbers<Point, 3> for PointNumbers {
+    ghost numbers_of = { point_numbers };
+
+    fn numbers(point: &Point) -> [u64; 3] {
+        [point.x, point.y, point.weight]
+    }
+}
 
 /// A rectangle by its ends.
 pub(crate) fn rect(x1: u64, x2: u64, y1: u64, y2: u64) -> Rect
@@ -38,21 +49,5 @@ pub(crate) fn list(
     ensures { OnOk result (text.new.items ≡ text.old.items ++ points_line (map point_of (inside rect points.now))) }
 {
     let found = points.list(alloc, rect)?;
-    let numbers = counted_numbers(alloc, &found)?;
-    line(text, "points", &numbers)
-}
-
-/// How many points there are, and then the numbers of each.
-#[tactic(auto, using(crate::proofs::Numbered::numbers_more))]
-fn counted_numbers(alloc: Global, points: &[Point]) -> Result<Vec<u64>, NoMemory>
-    ensures { IfOk result (λ numbers. numbers.items ≡ length points.now ∷ numbers_of points.now) }
-{
-    let mut numbers = Vec::with_capacity(alloc, points.len().saturating_mul(3).saturating_add(1))?;
-    numbers.push(points.len() as u64)?;
-    for point in points {
-        numbers.push(point.x)?;
-        numbers.push(point.y)?;
-        numbers.push(point.weight)?;
-    }
-    Ok(numbers)
+    counted_line::<PointNumbers, _, _>(alloc, text, "points", &found)
 }

@@ -1,5 +1,5 @@
 -- The lines that are written.
-use Rattle.std.specs.Prelude.{◌≡◌, ◌++◌, ◌∷◌, [], ℕ, List, codes, decimal}
+use Rattle.std.specs.Prelude.{◌≡◌, ◌++◌, ◌∷◌, [], ℕ, List, codes, decimal, length}
 use Rattle.std.specs.List.{flat_map}
 use Rattle.script.specs.declared.fault.BadRecord.{BadRecord}
 use Rattle.script.specs.declared.fault.Code.{Code}
@@ -31,6 +31,10 @@ code_word code.Caller = codes "caller"
 code_word code.Op = codes "op"
 code_word code.Interval = codes "interval"
 code_word code.Run = codes "run"
+
+-- how many rows there are, and then the numbers of each
+abbrev pub counted : {T : Type 0} → (T → List ℕ) → List T → List ℕ
+counted numbers_of rows = length rows ∷ flat_map numbers_of rows
 
 -- the one line for a bad record
 abbrev pub error_line_of : BadRecord → List ℕ

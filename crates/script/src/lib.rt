@@ -10,6 +10,7 @@ mod lines;
 mod lists;
 mod numbers;
 mod records;
+mod rows;
 pub mod shapes;
 
 pub use command::{Command, read_all};
@@ -18,3 +19,4 @@ pub use items::Items;
 pub use lines::{error_line, line, push_part, reply};
 pub use numbers::number;
 pub use records::Records;
+pub use rows::{Numbers, counted, counted_line};
