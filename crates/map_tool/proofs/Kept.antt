@@ -1,5 +1,5 @@
 -- The maps of the registers, from what the registers keep.
-use Rattle.std.proofs.Common.{◌≡◌, ℕ, zero, suc, ◌<◌, ◌+◌, List, [], ◌∷◌, ◌++◌, length, replicate, refl, ap, ap₂, ◌∙◌, arith}
+use Rattle.std.proofs.Common.{◌≡◌, ℕ, zero, suc, ◌<◌, ◌+◌, List, [], ◌∷◌, ◌++◌, length, replicate, refl, sym, ap, ap₂, ◌∙◌, arith}
 use Rattle.std.specs.Prelude.{slice_index_or, slice_set}
 use Rattle.std.proofs.lemmas.List.{map-append, replicate_more}
 use Rattle.map_model.specs.Contents.{Contents}
@@ -15,6 +15,10 @@ stored_is [] zero m = refl
 stored_is [] (suc i) m = refl
 stored_is (x ∷ kept) zero m = refl
 stored_is (x ∷ kept) (suc i) m = ap (λ rest. x.entries ∷ rest) (stored_is kept i m)
+
+-- a map that is taken out of a register
+pub taken_is : (kept : List (Contents ℕ ℕ)) (i : ℕ) (lent taken : Contents ℕ ℕ) → i < length kept → lent ≡ slice_index_or kept i lent → taken ≡ lent → taken.entries ≡ register (maps_of kept) i
+taken_is kept i lent taken h is same = ap (λ (m : Contents ℕ ℕ). m.entries) (same ∙ is) ∙ sym (register_is kept i lent h)
 
 -- one empty map more
 pub emptied : (kept : List (Contents ℕ ℕ)) (m : Contents ℕ ℕ) (n : ℕ) → maps_of kept ≡ replicate n [] → m.entries ≡ [] → maps_of (kept ++ m ∷ []) ≡ replicate (n + 1) []

@@ -4,3 +4,4 @@ pub mod Effects
 pub mod Bounds
 pub mod Counts
 pub mod Greatest
+pub mod Runs

@@ -1,11 +1,9 @@
-//! Commands of the tool map, one and many.
-ghost use Rattle.std.specs.Prelude.{◌≡◌, ◌≤◌, ◌<◌, ◌+◌, ◌++◌, IfOk, IfSome, MatchResult, OnErr, OnOk};
-ghost use Rattle.std.specs.List.{AllByRecursion};
+//! One command of the tool map.
+ghost use Rattle.std.specs.Prelude.{◌≡◌, ◌≤◌, ◌+◌, ◌++◌, IfSome, MatchResult, OnErr, OnOk};
 ghost use Rattle.map_records.specs.MapRecords.{HasRegisters};
 ghost use Rattle.map_tool.specs.Bounds.{most_steps};
 ghost use Rattle.map_tool.specs.Effects.{map_after, map_reply};
-ghost use Rattle.map_tool.specs.Registers.{empty_registers, maps_of};
-ghost use Rattle.script.specs.Replies.{replies};
+ghost use Rattle.map_tool.specs.Registers.{maps_of};
 
 use crate::asking::{count, fold, get, greatest, list, next, prev, rank, select, size, sum};
 use crate::changing::{above, at_least, below, clear, copy, filter, slice};
@@ -15,8 +13,8 @@ use aug_monoid::{NoMemory, Steps};
 use fork_join::{Cut, Gate};
 use map_records::MapCommand;
 use std::alloc::Global;
-use std::marker::{Brand, Sync};
-use std::sync::ledger::{Blank, Ledger};
+use std::marker::Sync;
+use std::sync::ledger::Ledger;
 use std::thread::Threads;
 
 /// Runs one command of the tool map, and appends its reply to a text. `get` takes at most the steps of a look-up in its register,
@@ -83,67 +81,4 @@ pub fn map_command<R: Threads + Sync, G: Gate, C: Ledger>(
             filter(rt, alloc, gate, cut, registers, *d, *m, *lo, *hi, text)
         }
     }
-}
-
-// Runs commands in order, and appends their replies to one text.
-fn run_all<R: Threads + Sync, G: Gate, C: Ledger>(
-    rt: &R,
-    alloc: Global,
-    gate: &G,
-    cut: Cut,
-    commands: &[MapCommand],
-    steps: &mut Steps<C>,
-) -> Result<Vec<u8>, NoMemory>
-    requires { AllByRecursion HasRegisters commands.now }
-    ensures { IfOk result (λ text. text.items ≡ replies map_reply map_after empty_registers commands.now) }
-{
-    let mut registers = Registers::empty(alloc)?;
-    let mut text = Vec::new(alloc);
-    for command in commands {
-        map_command(
-            rt,
-            alloc,
-            gate,
-            cut,
-            &mut registers,
-            command,
-            steps,
-            &mut text,
-        )?;
-    }
-    Ok(text)
-}
-
-// The same, with steps that begin with a blank.
-fn run_counted<R: Threads + Sync, G: Gate, C: Ledger>(
-    rt: &R,
-    alloc: Global,
-    gate: &G,
-    cut: Cut,
-    commands: &[MapCommand],
-    blank: Blank,
-) -> Result<Vec<u8>, NoMemory>
-    requires registers { AllByRecursion HasRegisters commands.now }
-    requires name { blank.name ≡ C.name }
-    requires parts { blank.parts ≡ C.parts }
-    requires some { 0 < blank.parts }
-    ensures { IfOk result (λ text. text.items ≡ replies map_reply map_after empty_registers commands.now) }
-{
-    let mut steps = Steps::<C>::start(blank);
-    run_all(rt, alloc, gate, cut, commands, &mut steps)
-}
-
-/// The replies to commands of the tool map, run in order from empty registers. They depend neither on the runtime nor on the gate
-/// nor on the cut.
-pub fn run_map<R: Threads + Sync, G: Gate>(
-    rt: &R,
-    alloc: Global,
-    gate: &G,
-    cut: Cut,
-    commands: &[MapCommand],
-) -> Result<Vec<u8>, NoMemory>
-    requires { AllByRecursion HasRegisters commands.now }
-    ensures { IfOk result (λ text. text.items ≡ replies map_reply map_after empty_registers commands.now) }
-{
-    run_counted::<R, G, Brand>(rt, alloc, gate, cut, commands, Blank::new(1))
 }

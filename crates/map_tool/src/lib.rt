@@ -8,7 +8,10 @@ mod command;
 mod entries;
 mod registers;
 mod replacing;
+mod running;
+mod runs;
 mod values;
 
-pub use command::{map_command, run_map};
+pub use command::map_command;
 pub use registers::Registers;
+pub use running::run_map;

@@ -10,6 +10,8 @@ mod faults;
 #[cfg(test)]
 mod many_points;
 #[cfg(test)]
+mod many_puts;
+#[cfg(test)]
 mod plainly;
 #[cfg(test)]
 mod programs;

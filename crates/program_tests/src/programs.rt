@@ -38,7 +38,7 @@ fn sound_edge<'a>(piece: usize) -> Edge<'a>
     }
 }
 
-fn words_of<R: Abort>(rt: &R, alloc: Global, words: &[&str]) -> Vec<String> {
+pub(crate) fn words_of<R: Abort>(rt: &R, alloc: Global, words: &[&str]) -> Vec<String> {
     let mut list = Vec::new(alloc);
     for word in words {
         let word = String::from_str(alloc, word).expect(rt, "memory");

@@ -1,4 +1,4 @@
-use Rattle.map_tool.proofs.command.run_map.Given as goal
+use Rattle.map_tool.proofs.running.run_map.Given as goal
 
 abbrev pub ghosts-run_counted : goal.ghosts-run_counted
 ghosts-run_counted g a = record { name = a.blank.name; parts = a.blank.parts }

@@ -1,0 +1,144 @@
+//! Commands of the tool map in a row.
+ghost use Rattle.std.specs.Prelude.{◌≡◌, ◌<◌, ◌++◌, IfOk, IfSome, OnOk};
+ghost use Rattle.std.specs.List.{AllByRecursion};
+ghost use Rattle.map_records.specs.MapRecords.{HasRegisters};
+ghost use Rattle.map_tool.specs.Effects.{map_after, map_reply};
+ghost use Rattle.map_tool.specs.Registers.{empty_registers, maps_of};
+ghost use Rattle.map_tool.specs.Runs.{after_all, puts_into};
+ghost use Rattle.script.specs.Replies.{replies};
+
+use crate::command::map_command;
+use crate::registers::Registers;
+use crate::runs::{entries_put, run_len};
+use aug_monoid::{NoMemory, Steps};
+use fork_join::{Cut, Gate};
+use map_records::MapCommand;
+use std::alloc::Global;
+use std::marker::{Brand, Sync};
+use std::sync::ledger::{Blank, Ledger};
+use std::thread::Threads;
+
+/// Shorter runs of puts are done one by one, and those into a register of fewer entries, since such a map stays in the caches.
+const FEW_PUTS: usize = 4096;
+
+// The register and the entries of a run of puts that is worth doing at once.
+fn long_run(
+    alloc: Global,
+    registers: &Registers,
+    run: &[MapCommand],
+) -> Result<Option<(u8, Vec<(u64, u64)>)>, NoMemory>
+    requires { AllByRecursion HasRegisters run.now }
+    ensures { IfOk result (λ found. IfSome found (λ puts. (puts.0 < 16) × (run.now ≡ puts_into puts.0 puts.1.items))) }
+{
+    let Some(MapCommand::Put { d, k: _, v: _ }) = run.first() else {
+        return Ok(None);
+    };
+    if run.len() < FEW_PUTS || registers.map(*d).size() < FEW_PUTS as u64 {
+        return Ok(None);
+    }
+    match entries_put(alloc, *d, run)? {
+        Some(entries) => Ok(Some((*d, entries))),
+        None => Ok(None),
+    }
+}
+
+// Runs commands one by one, and appends their replies to a text.
+fn run_each<R: Threads + Sync, G: Gate, C: Ledger>(
+    rt: &R,
+    alloc: Global,
+    gate: &G,
+    cut: Cut,
+    registers: &mut Registers,
+    commands: &[MapCommand],
+    steps: &mut Steps<C>,
+    text: &mut Vec<u8>,
+) -> Result<(), NoMemory>
+    requires { AllByRecursion HasRegisters commands.now }
+    ensures replies { OnOk result (text.new.items ≡ text.old.items ++ replies map_reply map_after (maps_of registers.old) commands.now) }
+    ensures after { OnOk result (maps_of registers.new ≡ after_all (maps_of registers.old) commands.now) }
+{
+    for command in commands {
+        map_command(rt, alloc, gate, cut, registers, command, steps, text)?;
+    }
+    Ok(())
+}
+
+// Runs commands, all at once where they are a long run of puts.
+fn run_together<R: Threads + Sync, G: Gate, C: Ledger>(
+    rt: &R,
+    alloc: Global,
+    gate: &G,
+    cut: Cut,
+    registers: &mut Registers,
+    commands: &[MapCommand],
+    steps: &mut Steps<C>,
+    text: &mut Vec<u8>,
+) -> Result<(), NoMemory>
+    requires { AllByRecursion HasRegisters commands.now }
+    ensures replies { OnOk result (text.new.items ≡ text.old.items ++ replies map_reply map_after (maps_of registers.old) commands.now) }
+    ensures after { OnOk result (maps_of registers.new ≡ after_all (maps_of registers.old) commands.now) }
+{
+    match long_run(alloc, registers, commands)? {
+        Some((number, entries)) => {
+            registers.put_many(rt, alloc, gate, cut, number, &entries, text)
+        }
+        None => run_each(rt, alloc, gate, cut, registers, commands, steps, text),
+    }
+}
+
+// Runs commands in order, and appends their replies to one text.
+fn run_all<R: Threads + Sync, G: Gate, C: Ledger>(
+    rt: &R,
+    alloc: Global,
+    gate: &G,
+    cut: Cut,
+    commands: &[MapCommand],
+    steps: &mut Steps<C>,
+) -> Result<Vec<u8>, NoMemory>
+    requires { AllByRecursion HasRegisters commands.now }
+    ensures { IfOk result (λ text. text.items ≡ replies map_reply map_after empty_registers commands.now) }
+{
+    let mut registers = Registers::empty(alloc)?;
+    let mut text = Vec::new(alloc);
+    let mut rest = commands;
+    while !rest.is_empty() {
+        let (run, later) = rest.split_at(run_len(rest));
+        run_together(rt, alloc, gate, cut, &mut registers, run, steps, &mut text)?;
+        rest = later;
+    }
+    Ok(text)
+}
+
+// The same, with steps that begin with a blank.
+fn run_counted<R: Threads + Sync, G: Gate, C: Ledger>(
+    rt: &R,
+    alloc: Global,
+    gate: &G,
+    cut: Cut,
+    commands: &[MapCommand],
+    blank: Blank,
+) -> Result<Vec<u8>, NoMemory>
+    requires registers { AllByRecursion HasRegisters commands.now }
+    requires name { blank.name ≡ C.name }
+    requires parts { blank.parts ≡ C.parts }
+    requires some { 0 < blank.parts }
+    ensures { IfOk result (λ text. text.items ≡ replies map_reply map_after empty_registers commands.now) }
+{
+    let mut steps = Steps::<C>::start(blank);
+    run_all(rt, alloc, gate, cut, commands, &mut steps)
+}
+
+/// The replies to commands of the tool map, run in order from empty registers. They depend neither on the runtime nor on the gate
+/// nor on the cut.
+pub fn run_map<R: Threads + Sync, G: Gate>(
+    rt: &R,
+    alloc: Global,
+    gate: &G,
+    cut: Cut,
+    commands: &[MapCommand],
+) -> Result<Vec<u8>, NoMemory>
+    requires { AllByRecursion HasRegisters commands.now }
+    ensures { IfOk result (λ text. text.items ≡ replies map_reply map_after empty_registers commands.now) }
+{
+    run_counted::<R, G, Brand>(rt, alloc, gate, cut, commands, Blank::new(1))
+}

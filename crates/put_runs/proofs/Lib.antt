@@ -1,0 +1,4 @@
+pub mod News
+pub mod FirstPlaces
+pub mod NewKeys
+pub mod LastPlaces
