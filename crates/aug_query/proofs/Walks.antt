@@ -1,5 +1,5 @@
 -- A walk over the entries of a block, entry by entry.
-use Rattle.std.proofs.Common.{◌≡◌, ℕ, ◌+◌, Bool, true, false, cond, List, [], ◌∷◌, ◌++◌, length, take, drop, Some, refl, sym, ap, ap₂, ◌∙◌, subst, length-append, take-append-drop, arith}
+use Rattle.std.proofs.Common.{◌≡◌, ℕ, zero, suc, ◌≤◌, None, ◌+◌, Bool, true, false, cond, List, [], ◌∷◌, ◌++◌, length, take, drop, Some, refl, sym, ap, ap₂, ◌∙◌, subst, length-append, take-append-drop, arith}
 use Rattle.std.specs.declared.cmp.Ordering.{Ordering}
 use Rattle.std.specs.Cmp.{IsTotalOrder}
 use Rattle.std.specs.List.{filter, slice_get}
@@ -32,6 +32,12 @@ filter_sides p whole l e r is long =
     let front = filter_whole p l (omega (arith, size, few, more, long)) in
     let back = filter_whole p r (omega (arith, size, few, more, long)) in
     is ∙ ap₂ (λ x y. x ++ e ∷ y) (sym front) (sym back)
+
+-- at a place without an entry nothing is left
+pub none_past : {E : Type 0} (m : List E) (i : ℕ) → slice_get m i ≡ None → length m ≤ i
+none_past [] i h = omega arith
+none_past (x ∷ m) zero h = cc
+none_past (x ∷ m) (suc i) h = omega (arith, none_past m i h)
 
 module _ {E : Type 0} (m : List E) (i : ℕ) (e : E) (is : slice_get m i ≡ Some e) where
   -- the entries before a place, and the one there

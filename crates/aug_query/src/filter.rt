@@ -6,7 +6,7 @@ ghost use Rattle.map_model.specs.Fold.{aug_filter};
 
 use crate::passing::{entry_passes, fails_whole};
 use aug_monoid::{AugTest, Augment, Leaf, NoMemory, Share, Steps};
-use join_core::{Part, join, join2};
+use join_core::{Part, join_lent, join2};
 use std::alloc::Global;
 use std::marker::Brand;
 use std::sync::ledger::{Blank, Ledger};
@@ -107,9 +107,7 @@ fn filter_node<A: Augment, L: Leaf<A::Key, A::Val>, S: BlockSize, T: AugTest<A>,
     if front.size() + back.size() + 1 == tree.size() {
         return tree.share(alloc);
     }
-    let key = key.share(alloc)?;
-    let val = val.share(alloc)?;
-    join(alloc, front, key, val, back, steps)
+    join_lent(alloc, front, key, val, back, steps)
 }
 
 /// The map of the entries whose augmented values pass.

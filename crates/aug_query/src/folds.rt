@@ -105,6 +105,24 @@ fn fold_block<A: Augment, L: Leaf<A::Key, A::Val>, C: Ledger>(
     Ok(fold)
 }
 
+/// The fold of what stands before an entry, the entry, and what stands after it.
+fn fold_around<A: Augment, C: Ledger>(
+    alloc: Global,
+    before: &A::Aug,
+    key: &A::Key,
+    val: &A::Val,
+    after: &A::Aug,
+    steps: &mut Steps<C>,
+) -> Result<A::Aug, NoMemory>
+    ensures value { IfOk result (λ aug. aug ≡ A.combined (A.combined before.now (A.base_of key.now val.now)) after.now) }
+    ensures succeeds { A.never_refuses → IsOk result }
+    ensures cost { steps.new ≤ steps.old + 2 }
+{
+    let middle = A::base(alloc, key, val)?;
+    let front = A::combine(alloc, before, &middle, steps)?;
+    A::combine(alloc, &front, after, steps)
+}
+
 /// The fold of the entries in a range.
 fn fold_span<A: Augment, L: Leaf<A::Key, A::Val>, S: BlockSize, C: Ledger>(
     alloc: Global,
@@ -143,10 +161,8 @@ fn fold_span<A: Augment, L: Leaf<A::Key, A::Val>, S: BlockSize, C: Ledger>(
                 range: range.right_part(),
             };
             let before = fold_span(alloc, low, steps)?;
-            let middle = A::base(alloc, key, val)?;
-            let front = A::combine(alloc, &before, &middle, steps)?;
             let after = fold_span(alloc, high, steps)?;
-            A::combine(alloc, &front, &after, steps)
+            fold_around::<A, C>(alloc, &before, key, val, &after, steps)
         }
     }
 }

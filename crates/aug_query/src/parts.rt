@@ -1,12 +1,13 @@
 //! Parts of maps.
-ghost use Rattle.std.specs.Prelude.{◌≡◌, ◌<◌, IfOk};
+ghost use Rattle.std.specs.Prelude.{◌≡◌, ◌*◌, ◌<◌, ◌≤◌, IfOk, length};
+ghost use Rattle.map_model.specs.Balance.{IsBlockSize};
 ghost use Rattle.map_model.specs.Entries.{IsIncreasing, above, below};
 ghost use Rattle.map_model.specs.Parts.{right_of, slice};
 ghost use Rattle.aug_query.specs.Within.{within};
 
 use crate::range::{KeyRange, Span};
 use aug_monoid::{Augment, Key, Leaf, NoMemory, Share, Steps};
-use join_core::join;
+use join_core::join_lent;
 use std::alloc::Global;
 use std::marker::Brand;
 use std::sync::ledger::{Blank, Ledger};
@@ -108,6 +109,22 @@ fn keep_block<K: Key, V: Share, L: Leaf<K, V>, C: Ledger>(
     Ok(kept)
 }
 
+/// The map of the entries of a leaf in a range.
+fn keep_leaf<A: Augment, L: Leaf<A::Key, A::Val>, S: BlockSize, C: Ledger>(
+    alloc: Global,
+    leaf: &L,
+    range: &KeyRange<'_, A::Key>,
+    steps: &mut Steps<C>,
+) -> Result<TreeOver<A, L, S>, NoMemory>
+    requires block_size { IsBlockSize S.SIZE }
+    requires increasing { IsIncreasing A.Key.cmp (L.entries leaf.now) }
+    requires short { length (L.entries leaf.now) ≤ 2 * S.SIZE }
+    ensures { IfOk result (λ part. part.entries ≡ within A.Key.cmp range.now (L.entries leaf.now)) }
+{
+    let kept = keep_block::<A::Key, A::Val, L, C>(alloc, leaf, range, steps)?;
+    TreeOver::from_owned(alloc, kept, steps)
+}
+
 /// The map of the entries in a range.
 fn keep_span<A: Augment, L: Leaf<A::Key, A::Val>, S: BlockSize, C: Ledger>(
     alloc: Global,
@@ -122,10 +139,7 @@ fn keep_span<A: Augment, L: Leaf<A::Key, A::Val>, S: BlockSize, C: Ledger>(
     }
     match tree.look() {
         LookOver::Empty => tree.share(alloc),
-        LookOver::Block { leaf } => {
-            let kept = keep_block::<A::Key, A::Val, L, C>(alloc, leaf, &range, steps)?;
-            TreeOver::from_owned(alloc, kept, steps)
-        }
+        LookOver::Block { leaf } => keep_leaf(alloc, leaf, &range, steps),
         LookOver::Node {
             left,
             key,
@@ -148,9 +162,7 @@ fn keep_span<A: Augment, L: Leaf<A::Key, A::Val>, S: BlockSize, C: Ledger>(
             };
             let front = keep_span(alloc, low, steps)?;
             let back = keep_span(alloc, high, steps)?;
-            let key = key.share(alloc)?;
-            let val = val.share(alloc)?;
-            join(alloc, &front, key, val, &back, steps)
+            join_lent(alloc, &front, key, val, &back, steps)
         }
     }
 }

@@ -101,6 +101,22 @@ fn project_block<A: Augment, L: Leaf<A::Key, A::Val>, P: Project<A>, C: Ledger>(
     Ok(out)
 }
 
+/// The image for what stands before an entry, the entry, and what stands behind it.
+fn meet_around<A: Augment, P: Project<A>>(
+    alloc: Global,
+    front: P::Out,
+    key: &A::Key,
+    val: &A::Val,
+    back: P::Out,
+    how: &P,
+) -> Result<P::Out, NoMemory>
+    ensures { IfOk result (λ out. out ≡ P.met how.now front (P.met how.now (P.image_of how.now (A.base_of key.now val.now)) back)) }
+{
+    let middle = project_entry::<A, P>(alloc, key, val, how)?;
+    let behind = how.meet(alloc, middle, back)?;
+    how.meet(alloc, front, behind)
+}
+
 /// The image for the entries in a range.
 fn project_span<A: Augment, L: Leaf<A::Key, A::Val>, S: BlockSize, P: Project<A>, C: Ledger>(
     alloc: Global,
@@ -138,10 +154,8 @@ fn project_span<A: Augment, L: Leaf<A::Key, A::Val>, S: BlockSize, P: Project<A>
                 range: range.right_part(),
             };
             let front = project_span(alloc, low, how, steps)?;
-            let middle = project_entry::<A, P>(alloc, key, val, how)?;
             let back = project_span(alloc, high, how, steps)?;
-            let behind = how.meet(alloc, middle, back)?;
-            how.meet(alloc, front, behind)
+            meet_around::<A, P>(alloc, front, key, val, back, how)
         }
     }
 }

@@ -3,11 +3,11 @@ ghost use Rattle.std.specs.Prelude.{◌≡◌, ◌+◌, ◌≤◌};
 ghost use Rattle.aug_query.specs.Within.{ends_before, begins_after, is_all, left_part, right_part};
 
 use aug_monoid::{Augment, Key, Leaf, Steps};
+use std::alloc::AllocError;
 use std::sync::ledger::Ledger;
 use tree_base::{BlockSize, TreeOver};
 
 /// A range of keys.
-#[derive(Drop)]
 pub(crate) enum KeyRange<'a, K> {
     All,
     AtMost { hi: &'a K },
@@ -15,6 +15,17 @@ pub(crate) enum KeyRange<'a, K> {
     Between { lo: &'a K, hi: &'a K },
     Below { hi: &'a K },
     Above { lo: &'a K },
+}
+
+// By hand, as keys need not be `Copy`.
+impl<'a, K> Copy for KeyRange<'a, K> {}
+
+impl<'a, K> Clone for KeyRange<'a, K> {
+    ghost is_clone = { λ x y. y ≡ x };
+
+    fn clone(&self) -> Result<Self, AllocError> {
+        Ok(*self)
+    }
 }
 
 impl<'a, K: Key> KeyRange<'a, K> {

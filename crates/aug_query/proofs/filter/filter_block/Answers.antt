@@ -1,10 +1,10 @@
-use Rattle.std.proofs.Common.{rules, ◌≡◌, ◌∷◌, [], ◌++◌, true, false, cond, take, Some, sym, ap, ◌∙◌}
+use Rattle.std.proofs.Common.{rules, ◌≡◌, ◌∷◌, [], ◌++◌, true, false, cond, take, Some, sym, ap, ◌∙◌, None, arith}
 use Rattle.std.specs.List.{slice_get}
 use Rattle.std.specs.Option.{option_map}
 use Rattle.aug_monoid.specs.Lending.{entry_of}
-use Rattle.std.proofs.lemmas.List.{append-nil}
+use Rattle.std.proofs.lemmas.List.{append-nil, take_all}
 use Rattle.map_model.specs.Fold.{aug_filter}
-use Rattle.aug_query.proofs.Walks.{filter_more}
+use Rattle.aug_query.proofs.Walks.{filter_more, none_past}
 use Rattle.aug_query.proofs.filter.filter_block.Goals as goal
 
 pub loop-at-preserved-then-not-passes : goal.loop-at-preserved-then-not-passes
@@ -28,3 +28,16 @@ loop-at-preserved g c =
     let before = aug_filter g.A.Augment.base_of admits (take c.loop-at._at entries) in
     let more = filter_more entries c.loop-at._at e entry (λ d. admits (g.A.Augment.base_of d.0 d.1)) ∙ ap (λ b. before ++ cond b (e ∷ []) []) passes in
     (rw c.in_ok-into_entry.ensures.value at c.in_ok-push.ensures.items ∙ ap (λ m. m ++ e ∷ []) c.loop-at.invariant.0 ∙ sym more, search rules, search rules)
+
+pub unreachable-requires : goal.unreachable-requires
+unreachable-requires g c =
+    let entries = g.L.Leaf.entries c.args.leaf.now in
+    let none : slice_get entries c.loop-at._at ≡ None = sym (rw c.loop-at.invariant.1 at c.walk_next.ensures.value) ∙ ap (option_map entry_of) c.in_default.is in
+    omega (arith, none_past entries c.loop-at._at none, c.loop-at-test.true, c.len-at-end.ensures.value)
+
+pub returns : goal.returns
+returns g c =
+    let admits = g.T.AugTest.admits c.args.test.now in
+    let entries = g.L.Leaf.entries c.args.leaf.now in
+    let whole = take_all c.loop-at._at entries (omega (arith, c.loop-at-test.false, c.len-at-end.ensures.value)) in
+    c.loop-at.invariant.0 ∙ ap (aug_filter g.A.Augment.base_of admits) whole

@@ -1,6 +1,7 @@
-use Rattle.std.proofs.Common.{◌≡◌, [], Some, sym, ap, ◌∙◌}
+use Rattle.std.proofs.Common.{◌≡◌, [], Some, sym, ap, ◌∙◌, ◌<◌, length, rules, refl}
 use Rattle.std.specs.List.{filter}
 use Rattle.std.proofs.lemmas.Result.{IfOk-weaker}
+use Rattle.aug_query.proofs.Sides.{left_shorter, right_shorter}
 use Rattle.aug_query.proofs.Firsts.{first_here, first_left, first_right, none_first}
 use Rattle.aug_query.proofs.finding.+first_in.Goals as goal
 
@@ -27,3 +28,22 @@ returns-else-branch-clause-value g t c =
     let none : filter p left ≡ [] = none_first (filter p left) (sym c.in_ok-entry-in-Node.ensures.value ∙ c.in-None.is) in
     let behind = first_right p c.args.part.tree.now.entries left e c.in-Node.right.now.entries c.in-Node.ensures.top.entries_are none (sym c.in_ok-entry_passes-in-None.ensures.value ∙ c.if-branch.false) in
     IfOk-weaker c.first_in-in-None.result _ _ (λ x h. h ∙ sym behind) c.first_in-in-None.ensures.value
+
+pub first_in-requires : goal.first_in-requires
+first_in-requires g t c κs within =
+    let shorter : length c.in-Node.left.now.entries < length c.args.part.tree.now.entries = left_shorter _ _ _ _ c.in-Node.ensures.top.entries_are in
+    search rules
+
+pub first_in-requires-in-None : goal.first_in-requires-in-None
+first_in-requires-in-None g t c κs within =
+    let shorter : length c.in-Node.right.now.entries < length c.args.part.tree.now.entries = right_shorter _ _ _ _ c.in-Node.ensures.top.entries_are in
+    search rules
+
+pub returns-then-fails_whole-clause-value : goal.returns-then-fails_whole-clause-value
+returns-then-fails_whole-clause-value g t c = rw (c.fails_whole.ensures c.if-fails_whole.true) refl
+
+pub returns-in-Empty-clause-value : goal.returns-in-Empty-clause-value
+returns-in-Empty-clause-value g t c = rw c.in-Empty.ensures.top refl
+
+pub returns-in-Block-clause-value : goal.returns-in-Block-clause-value
+returns-in-Block-clause-value g t c = rw c.in-Block.ensures.top.entries_are c.first_in_block.ensures.value

@@ -1,9 +1,11 @@
-use Rattle.std.proofs.Common.{rules, ◌≡◌, ◌+◌, true, false, cond, [], ◌∷◌, ◌++◌, take, drop, Some, sym, ap, ◌∙◌}
+use Rattle.std.proofs.Common.{rules, ◌≡◌, ◌+◌, true, false, cond, [], ◌∷◌, ◌++◌, take, drop, Some, sym, ap, ◌∙◌, None, arith, refl}
 use Rattle.std.specs.List.{slice_get}
 use Rattle.std.specs.Option.{option_map}
 use Rattle.aug_monoid.specs.Lending.{entry_of}
+use Rattle.std.proofs.lemmas.List.{take_all}
+use Rattle.map_model.specs.Fold.{aug_filter}
 use Rattle.aug_query.proofs.Firsts.{first_here}
-use Rattle.aug_query.proofs.Walks.{around_here, filter_more}
+use Rattle.aug_query.proofs.Walks.{around_here, filter_more, none_past}
 use Rattle.aug_query.proofs.finding.first_in_block.Goals as goal
 
 pub returns-then-branch-clause-value : goal.returns-then-branch-clause-value
@@ -28,3 +30,17 @@ loop-at-preserved g c =
       here = search rules;
       fits = search rules;
     }
+
+pub unreachable-requires : goal.unreachable-requires
+unreachable-requires g c =
+    let entries = g.L.Leaf.entries c.args.leaf.now in
+    let none : slice_get entries c.loop-at._at ≡ None = sym (rw c.loop-at.invariant.here at c.walk_next.ensures.value) ∙ ap (option_map entry_of) c.in_default.is in
+    omega (arith, none_past entries c.loop-at._at none, c.loop-at-test.true, c.len-at-end.ensures.value)
+
+pub returns-clause-value : goal.returns-clause-value
+returns-clause-value g c =
+    let admits = g.T.AugTest.admits c.args.test.now in
+    let entries = g.L.Leaf.entries c.args.leaf.now in
+    let whole = take_all c.loop-at._at entries (omega (arith, c.loop-at-test.false, c.len-at-end.ensures.value)) in
+    let none : aug_filter g.A.Augment.base_of admits entries ≡ [] = ap (aug_filter g.A.Augment.base_of admits) (sym whole) ∙ c.loop-at.invariant.none in
+    rw none refl

@@ -1,8 +1,9 @@
-use Rattle.std.proofs.Common.{Some, sym, ap, ◌∙◌}
+use Rattle.std.proofs.Common.{Some, sym, ap, ◌∙◌, ◌<◌, length, rules, refl}
 use Rattle.std.specs.Option.{option_or}
 use Rattle.std.proofs.lemmas.Result.{IfOk-weaker}
 use Rattle.map_model.specs.Parts.{prev}
 use Rattle.map_model.proofs.Ranges.{prev-around_less, prev-around_equal, prev-around_greater}
+use Rattle.aug_query.proofs.Sides.{left_shorter, right_shorter}
 use Rattle.aug_query.proofs.neighbours.+prev_in.Goals as goal
 
 pub returns-in-Some-clause-value : goal.returns-in-Some-clause-value
@@ -28,3 +29,19 @@ pub returns-in-Less-clause-value : goal.returns-in-Less-clause-value
 returns-in-Less-clause-value g t c =
     let node = c.in-Node.ensures.top in
     IfOk-weaker c.prev_in.result _ _ (λ x h. h ∙ sym (ap (λ m. prev g.A.Key.Ord.cmp m c.args.key.now) node.entries_are ∙ prev-around_less g.met.A.Key.Ord.total c.in-Node.left.now.entries c.in-Node.middle.now c.in-Node.val.now c.in-Node.right.now.entries c.args.key.now node.increasing (sym c.in-Less.ensures.value))) c.prev_in.ensures.value
+
+pub prev_in-requires : goal.prev_in-requires
+prev_in-requires g t c κs within =
+    let shorter : length c.in-Node.left.now.entries < length c.args.part.tree.now.entries = left_shorter _ _ _ _ c.in-Node.ensures.top.entries_are in
+    search rules
+
+pub prev_in-requires-in-Greater : goal.prev_in-requires-in-Greater
+prev_in-requires-in-Greater g t c κs within =
+    let shorter : length c.in-Node.right.now.entries < length c.args.part.tree.now.entries = right_shorter _ _ _ _ c.in-Node.ensures.top.entries_are in
+    search rules
+
+pub returns-in-Empty-clause-value : goal.returns-in-Empty-clause-value
+returns-in-Empty-clause-value g t c = rw c.in-Empty.ensures.top refl
+
+pub returns-in-Block-clause-value : goal.returns-in-Block-clause-value
+returns-in-Block-clause-value g t c = rw c.in-Block.ensures.top.entries_are c.prev_in_block.ensures.value

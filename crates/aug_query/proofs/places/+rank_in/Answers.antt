@@ -1,8 +1,9 @@
-use Rattle.std.proofs.Common.{length, length-append, ◌∷◌, sym, ap, ◌∙◌, arith}
+use Rattle.std.proofs.Common.{◌<◌, length, length-append, ◌∷◌, sym, ap, ◌∙◌, arith, rules}
 use Rattle.std.specs.Ordering.{is_lt}
 use Rattle.map_model.specs.Parts.{rank}
 use Rattle.map_model.proofs.Lengths.{length-filter_le}
 use Rattle.map_model.proofs.Ranges.{rank-around_less, rank-around_equal, rank-around_greater}
+use Rattle.aug_query.proofs.Sides.{left_shorter, right_shorter}
 use Rattle.aug_query.proofs.places.+rank_in.Goals as goal
 
 pub overflow_add-result : goal.overflow_add-result
@@ -32,3 +33,18 @@ returns-in-Greater-clause-value g t c =
     let law = ap (λ m. rank g.A.Key.Ord.cmp m c.args.key.now) node.entries_are ∙ rank-around_greater g.met.A.Key.Ord.total left c.in-Node.middle.now c.in-Node.val.now right c.args.key.now node.increasing (sym c.in-Greater.ensures.value) in
     let whole = ap length node.entries_are ∙ length-append left (e ∷ right) in
     omega (arith, law, whole, c.size-in-Greater.ensures.value, c.size-in-Greater-2.ensures.value, c.rank_in-in-Greater.ensures.value)
+
+pub rank_in-requires : goal.rank_in-requires
+rank_in-requires g t c κs within =
+    let shorter : length c.in-Node.left.now.entries < length c.args.part.tree.now.entries = left_shorter _ _ _ _ c.in-Node.ensures.top.entries_are in
+    search rules
+
+pub rank_in-requires-in-Greater : goal.rank_in-requires-in-Greater
+rank_in-requires-in-Greater g t c κs within =
+    let shorter : length c.in-Node.right.now.entries < length c.args.part.tree.now.entries = right_shorter _ _ _ _ c.in-Node.ensures.top.entries_are in
+    search rules
+
+pub overflow_sub-behind : goal.overflow_sub-behind
+overflow_sub-behind g t c =
+    let shorter : length c.in-Node.right.now.entries < length c.args.part.tree.now.entries = right_shorter _ _ _ _ c.in-Node.ensures.top.entries_are in
+    omega (arith, shorter, c.size-in-Greater.ensures.value, c.size-in-Greater-2.ensures.value)

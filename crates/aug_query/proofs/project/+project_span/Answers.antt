@@ -1,7 +1,8 @@
-use Rattle.std.proofs.Common.{sym, ap, ap₂, ◌∙◌}
+use Rattle.std.proofs.Common.{sym, ap, ap₂, ◌∙◌, ◌<◌, length, rules}
 use Rattle.std.proofs.lemmas.Result.{IfOk-weaker}
 use Rattle.map_model.specs.Fold.{fold_of}
 use Rattle.aug_query.specs.Within.{within}
+use Rattle.aug_query.proofs.Sides.{left_shorter, right_shorter}
 use Rattle.aug_query.proofs.Ranges.{within-whole, within-before, within-after}
 use Rattle.aug_query.proofs.Nodes.{image_inside}
 use Rattle.aug_query.proofs.project.+project_span.Goals as goal
@@ -26,13 +27,39 @@ returns-then-begins_after g t c =
     let part = ap (within g.A.Key.Ord.cmp c.args.span.range) node.entries_are ∙ within-after g.met.A.Key.Ord.total c.args.span.range c.in-Node.left.now.entries c.in-Node.key.now c.in-Node.val.now c.in-Node.right.now.entries node.increasing (sym c.begins_after.ensures.value ∙ c.if-begins_after.true) in
     IfOk-weaker c.project_span-then-begins_after.result _ _ (λ x h. h ∙ ap (λ m. g.P.Project.image_of c.args.how.now (fold_of augment.base_of augment.unit_of augment.combined m)) (sym part)) c.project_span-then-begins_after.ensures
 
-pub returns-in_ok-behind-in-Node : goal.returns-in_ok-behind-in-Node
-returns-in_ok-behind-in-Node g t c =
+pub returns-in_ok-back-in-Node : goal.returns-in_ok-back-in-Node
+returns-in_ok-back-in-Node g t c =
     let law = g.met.A.Augment in
+    let image = g.P.Project.image_of c.args.how.now in
     let met = g.P.Project.met c.args.how.now in
     let node = c.in-Node.ensures.top in
     let front = rw c.left_part.ensures at c.in_ok-front-in-Node.ensures in
     let back = rw c.right_part.ensures at c.in_ok-back-in-Node.ensures in
-    let behind = c.in_ok-behind-in-Node.ensures ∙ ap₂ met c.in_ok-middle-in-Node.ensures back in
-    let parts = image_inside g.met.A.Key.Ord.total law.monoid law.base_fits (g.P.Project.image_of c.args.how.now) met (g.met.P.Project.projection c.args.how.now) c.args.span.range c.args.span.tree.now.entries c.in-Node.left.now.entries c.in-Node.key.now c.in-Node.val.now c.in-Node.right.now.entries node.entries_are node.increasing (sym c.ends_before.ensures.value ∙ c.if-ends_before.false) (sym c.begins_after.ensures.value ∙ c.if-begins_after.false) in
-    IfOk-weaker c.meet-in-Node.result _ _ (λ x h. h ∙ ap₂ met front behind ∙ sym parts) c.meet-in-Node.ensures
+    let parts = image_inside g.met.A.Key.Ord.total law.monoid law.base_fits image met (g.met.P.Project.projection c.args.how.now) c.args.span.range c.args.span.tree.now.entries c.in-Node.left.now.entries c.in-Node.key.now c.in-Node.val.now c.in-Node.right.now.entries node.entries_are node.increasing (sym c.ends_before.ensures.value ∙ c.if-ends_before.false) (sym c.begins_after.ensures.value ∙ c.if-begins_after.false) in
+    IfOk-weaker c.meet_around.result _ _ (λ x h. h ∙ ap₂ (λ l r. met l (met (image (g.A.Augment.base_of c.in-Node.key.now c.in-Node.val.now)) r)) front back ∙ sym parts) c.meet_around.ensures
+
+pub returns-in-Empty : goal.returns-in-Empty
+returns-in-Empty g t c = rw c.in-Empty.ensures.top (rw c.unit.ensures at c.image.ensures)
+
+pub returns-in-Block : goal.returns-in-Block
+returns-in-Block g t c = rw c.in-Block.ensures.top.entries_are c.project_block.ensures
+
+pub project_span-requires : goal.project_span-requires
+project_span-requires g t c κs within =
+    let shorter : length c.in-Node.left.now.entries < length c.args.span.tree.now.entries = left_shorter _ _ _ _ c.in-Node.ensures.top.entries_are in
+    search rules
+
+pub project_span-requires-then-begins_after : goal.project_span-requires-then-begins_after
+project_span-requires-then-begins_after g t c κs within =
+    let shorter : length c.in-Node.right.now.entries < length c.args.span.tree.now.entries = right_shorter _ _ _ _ c.in-Node.ensures.top.entries_are in
+    search rules
+
+pub project_span-requires-in-Node : goal.project_span-requires-in-Node
+project_span-requires-in-Node g t c κs within =
+    let shorter : length c.in-Node.left.now.entries < length c.args.span.tree.now.entries = left_shorter _ _ _ _ c.in-Node.ensures.top.entries_are in
+    search rules
+
+pub project_span-requires-in-Node-2 : goal.project_span-requires-in-Node-2
+project_span-requires-in-Node-2 g t c κs within =
+    let shorter : length c.in-Node.right.now.entries < length c.args.span.tree.now.entries = right_shorter _ _ _ _ c.in-Node.ensures.top.entries_are in
+    search rules

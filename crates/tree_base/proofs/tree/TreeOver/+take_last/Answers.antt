@@ -1,22 +1,10 @@
 use Rattle.std.proofs.lemmas.Grind.{common_steps}
-use Rattle.std.proofs.Common.{rules, ◌≡◌, ◌+◌, ◌-◌, ◌/◌, ◌≤◌, [], ◌∷◌, ◌++◌, take, drop, length, sym, ap, ◌∙◌, subst, arith, append_assoc, length-append, take-append-drop}
+use Rattle.std.proofs.Common.{rules, ◌≡◌, ◌+◌, ◌-◌, ◌/◌, ◌≤◌, [], ◌∷◌, ◌++◌, length, sym, ap, ◌∙◌, subst, arith, append_assoc, length-append}
 use Rattle.map_model.specs.Entries.{IsIncreasing}
 use Rattle.map_model.proofs.Keys.{IsIncreasing-front, IsIncreasing-back}
 use Rattle.std.proofs.lemmas.Result.{IfOk-weaker}
-use Rattle.tree_base.proofs.Nodes.{halves_balance, halves_fill}
+use Rattle.tree_base.proofs.Nodes.{length-around, halves_balance, halves_fill}
 use Rattle.tree_base.proofs.tree.TreeOver.+take_last.Goals as goal
-
-pub from_owned-requires-clause-increasing : goal.from_owned-requires-clause-increasing
-from_owned-requires-clause-increasing g t c =
-    let from = c.args.from.now.items in
-    let at = c.len.result - c.args.count in
-    rw c.in_ok-entries.ensures.tail (IsIncreasing-back g.A.Key.Ord.cmp (take at from) (drop at from) (subst (IsIncreasing g.A.Key.Ord.cmp) (sym (take-append-drop at from)) c.requires.increasing))
-
-pub block_or_none-requires-clause-increasing : goal.block_or_none-requires-clause-increasing
-block_or_none-requires-clause-increasing g t c =
-    let from = c.args.from.now.items in
-    let at = c.len.result - c.args.count in
-    rw (c.in_ok-leaf.ensures, c.in_ok-entries.ensures.tail) (IsIncreasing-back g.A.Key.Ord.cmp (take at from) (drop at from) (subst (IsIncreasing g.A.Key.Ord.cmp) (sym (take-append-drop at from)) c.requires.increasing))
 
 pub take_last-requires-2 : goal.take_last-requires-2
 take_last-requires-2 g t c κs within =
@@ -44,12 +32,6 @@ node-requires-clause-increasing g t c =
     ∙ ap (λ x. x ++ entry ∷ right) c.in_ok-left.ensures.entries ∙ append_assoc first left (entry ∷ right) in
     IsIncreasing-back g.A.Key.Ord.cmp first (left ++ entry ∷ right) (subst (IsIncreasing g.A.Key.Ord.cmp) whole c.requires.increasing)
 
-pub from_owned-requires-clause-short : goal.from_owned-requires-clause-short
-from_owned-requires-clause-short g t c = grind (arith, common_steps)
-
-pub block_or_none-requires-clause-short : goal.block_or_none-requires-clause-short
-block_or_none-requires-clause-short g t c = grind (arith, common_steps)
-
 pub node-requires-clause-balanced : goal.node-requires-clause-balanced
 node-requires-clause-balanced g t c =
     halves_balance c.args.count (length c.in_ok-left.left.entries) (length c.in_ok-right.right.entries) (omega (arith, c.in_ok-left.ensures.count)) (omega (arith, c.in_ok-left.ensures.count, c.in_ok-right.ensures.count, c.if-count-SIZE.false))
@@ -61,20 +43,11 @@ node-requires-clause-filled g t c =
 pub unreachable-requires : goal.unreachable-requires
 unreachable-requires g t c = grind (arith, common_steps)
 
-pub returns-then-count-SIZE-clause-entries : goal.returns-then-count-SIZE-clause-entries
-returns-then-count-SIZE-clause-entries g t c = grind (arith, common_steps)
-
-pub returns-then-count-SIZE-clause-count : goal.returns-then-count-SIZE-clause-count
-returns-then-count-SIZE-clause-count g t c = grind (arith, common_steps)
-
-pub returns-then-count-SIZE-clause-cost : goal.returns-then-count-SIZE-clause-cost
-returns-then-count-SIZE-clause-cost g t c = grind (arith, common_steps)
-
 pub returns-in_err-left-clause-cost : goal.returns-in_err-left-clause-cost
-returns-in_err-left-clause-cost g t c = grind (arith, common_steps)
+returns-in_err-left-clause-cost g t c = omega (arith, c.in_ok-right.ensures.cost, c.in_err-left.ensures.cost)
 
 pub returns-in_err-right-clause-cost : goal.returns-in_err-right-clause-cost
-returns-in_err-right-clause-cost g t c = grind (arith, common_steps)
+returns-in_err-right-clause-cost g t c = omega (arith, c.in_err-right.ensures.cost)
 
 pub returns-clause-entries : goal.returns-clause-entries
 returns-clause-entries g t c =
@@ -89,7 +62,12 @@ returns-clause-entries g t c =
     IfOk-weaker c.node.result (λ tree. tree.entries ≡ left ++ entry ∷ right) (λ tree. c.args.from.now.items ≡ first ++ tree.entries) (λ tree is. whole ∙ ap (λ x. first ++ x) (sym is)) c.node.ensures.entries
 
 pub returns-clause-count : goal.returns-clause-count
-returns-clause-count g t c = grind (arith, common_steps)
+returns-clause-count g t c =
+    let entry : g.row.A-Key.Denot × g.row.A-Val.Denot = (c.in-Some.key, c.in-Some.val) in
+    let left = c.in_ok-left.left.entries in
+    let right = c.in_ok-right.right.entries in
+    let counted : length left + length right + 1 ≡ c.args.count = omega (arith, c.in_ok-left.ensures.count, c.in_ok-right.ensures.count, c.if-count-SIZE.false) in
+    IfOk-weaker c.node.result (λ tree. tree.entries ≡ left ++ entry ∷ right) (λ tree. length tree.entries ≡ c.args.count) (λ tree is. ap length is ∙ length-around left entry right ∙ counted) c.node.ensures.entries
 
 pub returns-clause-cost : goal.returns-clause-cost
-returns-clause-cost g t c = grind (arith, common_steps)
+returns-clause-cost g t c = omega (arith, c.in_ok-right.ensures.cost, c.in_ok-left.ensures.cost, c.node.ensures.cost, c.if-count-SIZE.false)
