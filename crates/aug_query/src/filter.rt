@@ -120,7 +120,7 @@ fn filter_part<A: Augment, L: Leaf<A::Key, A::Val>, S: BlockSize, T: AugTest<A>,
     ensures { IfOk result (λ kept. kept.entries ≡ aug_filter A.base_of (T.admits test.now) part.entry.tree.now.entries) }
 {
     let tree = part.tree;
-    let _block_size = tree.block_size();
+    let _block_size = tree.block_size(); // for the proof alone: the block size is lawful
     if fails_whole(tree, test) {
         return Ok(TreeOver::empty());
     }

@@ -114,7 +114,7 @@ fn next_in_block<K: Key, V: Share, L: Leaf<K, V>, C: Ledger>(
 {
     let place = leaf.seek(key, steps);
     if place.hit {
-        let _number = leaf.len();
+        let _number = leaf.len(); // for the proof alone: the next place fits its type
         owned(alloc, leaf.get_at(place.at + 1))
     } else {
         owned(alloc, leaf.get_at(place.at))

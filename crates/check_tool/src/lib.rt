@@ -1,4 +1,8 @@
 //! The tool check: whether a text is that of a lawful run of the tool serve.
+//!
+//! `check` judges the text by `run_check` with a map that operations change, and `run_check` replies `yes`, or `no` with the
+//! number of the least point that fails. It starts no thread of its own but for the changes of the map, and refuses only for
+//! want of memory.
 #![tactic(auto)]
 
 mod checking;

@@ -1,4 +1,7 @@
 //! A served graph that answers the queries of the tool gserve by text.
+//!
+//! `GraphAnswers` says what `serve_text` asks of a state: the reply to a query of a version (`degree`, `bfs`, `size`), and the
+//! last line of the whole text. A search is made on the thread of its caller.
 #![tactic(auto)]
 
 mod answering;

@@ -1,4 +1,7 @@
 //! The operations and queries of the tool gserve, read from records and taken as those of a served graph.
+//!
+//! `EdgeOp` and `EdgeQuery` are what `serve_script` asks of the operations and queries of a tool: how a record says one, and
+//! which of served_graph it stands for.
 #![tactic(auto)]
 
 mod edge_ops;

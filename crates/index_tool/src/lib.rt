@@ -1,4 +1,8 @@
 //! The tool index: its commands, read from records and run on an inverted index.
+//!
+//! A script is a list of `IndexCommand`s; `run_index` answers the replies in order. Documents in a row are added as one batch,
+//! and what each `doc` replies is what it would have replied alone. Terms are checked when records are read, so a run refuses
+//! only for want of memory.
 #![tactic(auto)]
 
 mod asking;

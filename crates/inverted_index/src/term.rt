@@ -70,7 +70,7 @@ pub fn is_term(bytes: &[u8]) -> bool
 }
 
 impl Term {
-    /// The term of at least one byte, all of them ASCII letters or digits; capital letters become small.
+    /// The term of at least one byte, all of them ASCII letters or digits; capital letters become small. Linear in the bytes.
     pub fn of(alloc: Global, bytes: &[u8]) -> Result<Term, TermFault>
         ensures { MatchResult result (λ term. (is_term bytes.now ≡ true) × (term ≡ small bytes.now)) (λ fault. FaultOf bytes.now fault) }
     {
@@ -94,7 +94,7 @@ impl Term {
         })
     }
 
-    /// Lends the bytes: small letters and digits, at least one.
+    /// Lends the bytes: small letters and digits, at least one. O(1).
     pub fn bytes(&self) -> &[u8]
         ensures value { result.now ≡ self.now }
         ensures lawful { IsTerm self.now }

@@ -78,7 +78,7 @@ pub fn join<A: Augment, L: Leaf<A::Key, A::Val>, S: BlockSize, C: Ledger>(
     }
 }
 
-/// The same as `join`, of an entry that gets another owner.
+/// The same as `join`, of an entry that gets another owner, at the same cost.
 pub fn join_lent<A: Augment, L: Leaf<A::Key, A::Val>, S: BlockSize, C: Ledger>(
     alloc: Global,
     left: &TreeOver<A, L, S>,
@@ -98,7 +98,7 @@ pub fn join_lent<A: Augment, L: Leaf<A::Key, A::Val>, S: BlockSize, C: Ledger>(
 }
 
 /// The same as `join`, of trees that are given up. Where they are balanced, as mostly after a change of one entry in one of
-/// them, they become the sides of one node, and get no further owner.
+/// them, they become the sides of one node, and get no further owner; else it takes what `join` takes.
 pub fn join_owned<A: Augment, L: Leaf<A::Key, A::Val>, S: BlockSize, C: Ledger>(
     alloc: Global,
     left: TreeOver<A, L, S>,
@@ -112,7 +112,7 @@ pub fn join_owned<A: Augment, L: Leaf<A::Key, A::Val>, S: BlockSize, C: Ledger>(
     ensures entries { IfOk result (λ tree. tree.entries ≡ left.entries ++ (key, val) ∷ right.entries) }
     ensures cost { weight left.entries ≤ 3 * weight right.entries + 3 → weight right.entries ≤ 3 * weight left.entries + 3 → steps.new ≤ steps.old + 7 * link_cost S.SIZE }
 {
-    let _sizes = (left.size(), right.size());
+    let _sizes = (left.size(), right.size()); // for the proof alone: keys rise, and sizes fit
     if are_balanced(&left, &right) {
         TreeOver::link_owned(alloc, left, key, val, right, steps)
     } else {

@@ -191,7 +191,7 @@ fn count_within<R: Threads + Sync, G: Gate>(
 ) -> Result<u64, NoMemory>
     ensures { IfOk result (λ n. n ≡ length (values_within map.now.entries lo hi)) }
 {
-    let _few = map.size(); // for the proof alone
+    let _few = map.size(); // for the proof alone: the count fits 64 bits
     map.map_reduce(rt, alloc, gate, cut, &Within { lo, hi })
 }
 

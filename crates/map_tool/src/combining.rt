@@ -162,7 +162,7 @@ fn joined<C: Ledger>(
     ensures joined { IfOk result (λ map. IfSome map (λ m. (overlaps a.now.entries b.now.entries ≡ false) × (m.entries ≡ a.now.entries ++ b.now.entries))) }
     ensures overlap { IfOk result (λ map. IfNone map (overlaps a.now.entries b.now.entries ≡ true)) }
 {
-    let _sizes = (a.size(), b.size()); // for the proof alone
+    let _sizes = (a.size(), b.size()); // for the proof alone: keys rise
     if overlap(alloc, a, b)? {
         return Ok(None);
     }

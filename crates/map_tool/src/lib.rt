@@ -1,4 +1,9 @@
 //! The tool map: its commands run on sixteen registers, each by one call of the library of maps.
+//!
+//! `map_command` runs one command on `Registers` and appends its reply; a refusal leaves both as they were, and the commands
+//! that change or ask one entry say how many steps they take. `run_map` runs a whole script from empty registers and answers
+//! the replies; long runs of puts into one register are done at once (`put_runs`). What each command means stands in
+//! `specs/Effects`.
 #![tactic(auto)]
 
 mod asking;

@@ -1,4 +1,7 @@
 //! A gate at which the halves of a first fork wait for one another: for tests that show that they overlap.
+//!
+//! A test hands it to a call that forks. Each half waits at the gate until the other one comes, or until it has looked for it
+//! often enough in vain, and the gate remembers whether they met: halves that run one after the other never do.
 #![tactic(auto)]
 
 use fork_join::Gate;

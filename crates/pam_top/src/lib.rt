@@ -1,4 +1,9 @@
 //! The program behind its words, its source and its sink.
+//!
+//! `pam` reads its words, the input and runs the tool, and appends the text to the sink: what it took, what it wrote and the
+//! status are an `Outcome` of the words and the bytes (`specs/Answer`), in which maps are sorted lists. `pam_plain` is the same
+//! without the tools that wait. Each status comes only with its cause, but out of memory, which is tied to none. `plain_map` is
+//! the plain program of one map, for tests.
 #![tactic(auto)]
 
 mod asking;

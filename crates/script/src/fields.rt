@@ -47,7 +47,7 @@ pub fn pair_at(row: &ByteRecord, place: usize) -> Result<Pair64, Code>
     requires { place < length (fields_of row.now) }
     ensures { result ≡ pair_of (field (fields_of row.now) place) (field (fields_of row.now) (place + 1)) }
 {
-    let _size = row.len(); // for the proof alone
+    let _size = row.len(); // for the proof alone: the next place fits its type
     let first = number_at(row, place)?;
     let second = number_at(row, place + 1)?;
     Ok(Pair64 { first, second })

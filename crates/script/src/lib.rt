@@ -1,5 +1,10 @@
 //! From the bytes of an input to records, and from answers to lines of text: what the commands of all
 //! tools are read and answered by.
+//!
+//! `read_all` gives the commands of an input, or its first bad record with its number and code; a tool says by `Command` how a
+//! record says a command. Shapes of fields that tools share stand in `shapes`, single fields in `fields`. `line` and
+//! `counted_line` append lines, and leave the text as it was where they are refused. What a record and a number are is told in
+//! docs/TOOLS.md.
 #![tactic(auto)]
 
 mod command;

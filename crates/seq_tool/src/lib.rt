@@ -1,4 +1,7 @@
 //! The tool seq: its commands, read from records and run on sixteen registers: each is one call of the library of sequences.
+//!
+//! A script is a list of `SeqCommand`s; `run_seq` answers the replies in order. A push or an append that would be too long, and
+//! a place that is not there, are answered as such before anything is made. A run refuses only for want of memory.
 #![tactic(auto)]
 
 mod asking;

@@ -1,4 +1,7 @@
 //! A served map that answers the queries of the tool serve by text.
+//!
+//! `ServedMap` says what `serve_text` asks of a state: the reply to a query of a version, and the last line of the whole text.
+//! The map itself and its operations are those of `served_map`.
 #![tactic(auto)]
 
 mod answering;

@@ -1,4 +1,7 @@
 //! From the commands of a tool that serves callers to the records that rounds run.
+//!
+//! `records` makes batches and reads in rounds of the commands of a tool, where each operation stands for one of the state that
+//! is served (`Says`); `callers` tells how many callers there are. O(n) for n commands. They refuse only for want of memory.
 #![tactic(auto)]
 
 mod converting;

@@ -1,4 +1,8 @@
 //! The rounds of serve: callers in threads of their own beside one combiner, round after round, and the text that they leave.
+//!
+//! In `run_rounds` the callers that have records in a round run side by side, beside one combiner; a round begins when the one
+//! before it has ended. `finish` writes the order of the batches and the last line. The text is that of a lawful history of the
+//! records, whatever the threads do (`HasServed`). Both may wait, so no proof says that they return.
 #![tactic(auto)]
 
 mod finishing;

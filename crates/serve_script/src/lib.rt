@@ -1,4 +1,8 @@
 //! The commands of the tools that serve callers, read from records: they differ in their operations and queries alone.
+//!
+//! An input begins with the number of callers; its records are batches' operations, reads and the ends of rounds.
+//! `served_commands` reads it for any `Operation` and `Query`, and tells the first bad record with its number and code.
+//! `ServeOp` and `ServeQuery` are those of the tool serve.
 #![tactic(auto)]
 
 mod commands;

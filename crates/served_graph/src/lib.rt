@@ -1,6 +1,10 @@
 //! The graph that a store serves: a state that changes by adding and cutting edges.
 //!
 //! A batch's operations are applied in order, so of several operations on one edge the last one tells whether it is there.
+//!
+//! `ServedGraph` is a graph as a `State` of `versions`: `change` applies a batch, with one call of `graph_snap` for all edges
+//! to add and one for all to cut. Old versions stay as they were and share what they can with the new one. A call refuses only
+//! for want of memory.
 #![tactic(auto)]
 
 mod cross;

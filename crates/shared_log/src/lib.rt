@@ -1,6 +1,9 @@
 //! A list that grows at its end, of which every earlier list stays as it was.
 //!
 //! The items stand in pages of 32, the full pages in pages of 32, and these in one row: a wide tree of three levels, kept by path copying.
+//!
+//! A push copies one page at most of each level and shares the rest: O(1), but for every 1024th push, which copies the row. A
+//! get looks into three levels, in O(1). A push refuses only for want of memory, and a log of 2^60 items counts as that.
 #![tactic(auto)]
 
 ghost use Rattle.std.specs.Prelude.{◌≡◌, ℕ, ◌<◌, ◌^◌, [], ◌∷◌, ◌++◌, length, slice_get, IfOk};

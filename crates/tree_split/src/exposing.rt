@@ -21,7 +21,7 @@ pub struct ExposedOver<A: Augment, L: Leaf<A::Key, A::Val>, S: BlockSize> {
     pub right: TreeOver<A, L, S>,
 }
 
-/// An entry of a map with its two sides, which are balanced: those of the top node, or the halves of a block.
+/// An entry of a map with its two sides, which are balanced: those of the top node, or the halves of a block. O(B).
 pub fn expose<A: Augment, L: Leaf<A::Key, A::Val>, S: BlockSize>(
     alloc: Global,
     tree: &TreeOver<A, L, S>,
