@@ -102,13 +102,13 @@ impl<A: Augment, L: Leaf<A::Key, A::Val>, S: BlockSize> MapOver<A, L, S> {
         Ok(MapOver { tree })
     }
 
-    /// What `how` makes of each entry, met in the order of the keys, and its unit for no entries. O(n) for a map of n entries.
+    /// What `how` makes of each entry, combined in the order of the keys, and its unit for no entries. O(n) for a map of n entries.
     pub fn map_reduce_alone<M: Reduce<A::Key, A::Val>>(
         &self,
         alloc: Global,
         how: &M,
     ) -> Result<M::Out, NoMemory>
-        ensures { IfOk result (λ out. out ≡ reduce (M.image_of how.now) (M.unit_of how.now) (M.met how.now) self.now.entries) }
+        ensures { IfOk result (λ out. out ≡ reduce (M.image_of how.now) (M.unit_of how.now) (M.combined how.now) self.now.entries) }
     {
         bulk_ops::map_reduce_alone(alloc, &self.tree, how)
     }

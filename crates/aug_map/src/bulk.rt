@@ -131,7 +131,7 @@ impl<A: SyncAugment, L: Leaf<A::Key, A::Val> + Send + Sync, S: BlockSize + Send 
         Ok(MapOver { tree })
     }
 
-    /// What `how` makes of each entry, met in the order of the keys, and its unit for no entries, in time linear in the number of
+    /// What `how` makes of each entry, combined in the order of the keys, and its unit for no entries, in time linear in the number of
     /// entries.
     pub fn map_reduce<R: Threads + Sync, G: Gate, M: SyncReduce<A::Key, A::Val>>(
         &self,
@@ -141,7 +141,7 @@ impl<A: SyncAugment, L: Leaf<A::Key, A::Val> + Send + Sync, S: BlockSize + Send 
         cut: Cut,
         how: &M,
     ) -> Result<M::Out, NoMemory>
-        ensures { IfOk result (λ out. out ≡ reduce (M.image_of how.now) (M.unit_of how.now) (M.met how.now) self.now.entries) }
+        ensures { IfOk result (λ out. out ≡ reduce (M.image_of how.now) (M.unit_of how.now) (M.combined how.now) self.now.entries) }
     {
         bulk_ops::map_reduce(rt, alloc, gate, cut, &self.tree, how)
     }

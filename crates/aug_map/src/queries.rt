@@ -84,7 +84,7 @@ impl<A: Augment, L: Leaf<A::Key, A::Val>, S: BlockSize> MapOver<A, L, S> {
         aug_query::first_where(alloc, &self.tree, test)
     }
 
-    /// The image of the fold of the entries with keys from `lo` to `hi`, both included. It is met from images of stored folds and
+    /// The image of the fold of the entries with keys from `lo` to `hi`, both included. It is combined from images of stored folds and
     /// of single entries; no two augmented values are combined. O(log n + B) images in a map of n entries.
     pub fn aug_project<P: Project<A>>(
         &self,

@@ -18,10 +18,10 @@ module _ {K V X : Type 0} {Fits : X → Type 0} {order : K → K → Ordering} {
       ap (fold_of base unit combine) (ap (within order range) is ∙ within-inside total range l key val r s upto_end from_begin)
       ∙ fold-around monoid base_fits (within order (left_part range) l) key val (within order (right_part range) r)
 
-  pub image_inside : {Y : Type 0} (image : X → Y) (meet : Y → Y → Y) → IsProjection order base unit combine image meet → (range : KeyRange K) (whole l : List (K × V)) (key : K) (val : V) (r : List (K × V)) → whole ≡ l ++ (key, val) ∷ r → IsIncreasing order (l ++ (key, val) ∷ r) → ends_before order range key ≡ false → begins_after order range key ≡ false
-      → image (fold_of base unit combine (within order range whole)) ≡ meet (image (fold_of base unit combine (within order (left_part range) l))) (meet (image (base key val)) (image (fold_of base unit combine (within order (right_part range) r))))
-  image_inside image meet projects range whole l key val r is s upto_end from_begin =
+  pub image_inside : {Y : Type 0} (image : X → Y) (combine_images : Y → Y → Y) → IsProjection order base unit combine image combine_images → (range : KeyRange K) (whole l : List (K × V)) (key : K) (val : V) (r : List (K × V)) → whole ≡ l ++ (key, val) ∷ r → IsIncreasing order (l ++ (key, val) ∷ r) → ends_before order range key ≡ false → begins_after order range key ≡ false
+      → image (fold_of base unit combine (within order range whole)) ≡ combine_images (image (fold_of base unit combine (within order (left_part range) l))) (combine_images (image (base key val)) (image (fold_of base unit combine (within order (right_part range) r))))
+  image_inside image combine_images projects range whole l key val r is s upto_end from_begin =
       let cut = within-inside total range l key val r s upto_end from_begin in
       let rises : IsIncreasing order (within order range (l ++ (key, val) ∷ r)) = IsIncreasing-filter order (λ e. in_range order range e.0) (l ++ (key, val) ∷ r) s in
       ap (λ m. image (fold_of base unit combine m)) (ap (within order range) is ∙ cut)
-      ∙ image-around total monoid base_fits image meet projects (within order (left_part range) l) key val (within order (right_part range) r) (subst (IsIncreasing order) cut rises)
+      ∙ image-around total monoid base_fits image combine_images projects (within order (left_part range) l) key val (within order (right_part range) r) (subst (IsIncreasing order) cut rises)

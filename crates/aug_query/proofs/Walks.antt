@@ -83,11 +83,11 @@ module _ {K V : Type 0} {order : K → K → Ordering} (total : IsTotalOrder ord
         ∙ ap (combine (fold_of base unit combine (within order range (take i m)))) (fold-one monoid base_fits k v)
 
     -- the image of a fold, where the entry is in the range
-    pub image_more : {Y : Type 0} (image : X → Y) (meet : Y → Y → Y) → IsProjection order base unit combine image meet → IsIncreasing order m → ends_before order range k ≡ false → begins_after order range k ≡ false → image (fold_of base unit combine (within order range (take (i + 1) m))) ≡ meet (image (fold_of base unit combine (within order range (take i m)))) (image (base k v))
-    image_more image meet projects s upto_end from_begin =
+    pub image_more : {Y : Type 0} (image : X → Y) (combine_images : Y → Y → Y) → IsProjection order base unit combine image combine_images → IsIncreasing order m → ends_before order range k ≡ false → begins_after order range k ≡ false → image (fold_of base unit combine (within order range (take (i + 1) m))) ≡ combine_images (image (fold_of base unit combine (within order range (take i m)))) (image (base k v))
+    image_more image combine_images projects s upto_end from_begin =
         let more = within_more upto_end from_begin in
         let front : IsIncreasing order (take (i + 1) m) = IsIncreasing-front order (take (i + 1) m) (drop (i + 1) m) (subst (IsIncreasing order) (sym (take-append-drop (i + 1) m)) s) in
         let rises : IsIncreasing order (within order range (take (i + 1) m)) = IsIncreasing-filter order (λ e. in_range order range e.0) (take (i + 1) m) front in
         ap (λ x. image (fold_of base unit combine x)) more
         ∙ projects (within order range (take i m)) ((k, v) ∷ []) (subst (IsIncreasing order) more rises)
-        ∙ ap (λ x. meet (image (fold_of base unit combine (within order range (take i m)))) (image x)) (fold-one monoid base_fits k v)
+        ∙ ap (λ x. combine_images (image (fold_of base unit combine (within order range (take i m)))) (image x)) (fold-one monoid base_fits k v)

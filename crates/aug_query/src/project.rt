@@ -11,7 +11,7 @@ use std::marker::Brand;
 use std::sync::ledger::{Blank, Ledger};
 use tree_base::{BlockSize, LookOver, TreeOver};
 
-/// The image of the fold of the entries with keys from `lo` to `hi`, both included. It is met from images of stored folds and
+/// The image of the fold of the entries with keys from `lo` to `hi`, both included. It is combined from images of stored folds and
 /// of single entries, beside two paths and at most two blocks; no two augmented values are combined.
 pub fn aug_project<A: Augment, L: Leaf<A::Key, A::Val>, S: BlockSize, P: Project<A>>(
     alloc: Global,
@@ -96,13 +96,13 @@ fn project_block<A: Augment, L: Leaf<A::Key, A::Val>, P: Project<A>, C: Ledger>(
             continue;
         }
         let image = project_entry::<A, P>(alloc, key, entry.val(), how)?;
-        out = how.meet(alloc, out, image)?;
+        out = how.combine(alloc, out, image)?;
     }
     Ok(out)
 }
 
 /// The image for what stands before an entry, the entry, and what stands behind it.
-fn meet_around<A: Augment, P: Project<A>>(
+fn combine_around<A: Augment, P: Project<A>>(
     alloc: Global,
     front: P::Out,
     key: &A::Key,
@@ -110,11 +110,11 @@ fn meet_around<A: Augment, P: Project<A>>(
     back: P::Out,
     how: &P,
 ) -> Result<P::Out, NoMemory>
-    ensures { IfOk result (λ out. out ≡ P.met how.now front (P.met how.now (P.image_of how.now (A.base_of key.now val.now)) back)) }
+    ensures { IfOk result (λ out. out ≡ P.combined how.now front (P.combined how.now (P.image_of how.now (A.base_of key.now val.now)) back)) }
 {
     let middle = project_entry::<A, P>(alloc, key, val, how)?;
-    let behind = how.meet(alloc, middle, back)?;
-    how.meet(alloc, front, behind)
+    let behind = how.combine(alloc, middle, back)?;
+    how.combine(alloc, front, behind)
 }
 
 /// The image for the entries in a range.
@@ -155,7 +155,7 @@ fn project_span<A: Augment, L: Leaf<A::Key, A::Val>, S: BlockSize, P: Project<A>
             };
             let front = project_span(alloc, low, how, steps)?;
             let back = project_span(alloc, high, how, steps)?;
-            meet_around::<A, P>(alloc, front, key, val, back, how)
+            combine_around::<A, P>(alloc, front, key, val, back, how)
         }
     }
 }

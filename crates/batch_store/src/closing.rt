@@ -16,7 +16,7 @@ use std::thread::Threads;
 use version_root::{Entry, State, Writer};
 
 /// What the caller has seen is a beginning of the journal.
-fn meet<S: State, R: Wait>(
+fn take_in<S: State, R: Wait>(
     rt: &R,
     writer: &mut Writer<S>,
     caller: &mut Caller<S>,
@@ -27,7 +27,7 @@ fn meet<S: State, R: Wait>(
     ensures ok { OnOk result (IsPrefix caller.new.reader.seen writer.new.journal) }
 {
     let notice = caller.reader.note()?;
-    writer.meet(rt, notice);
+    writer.take_in(rt, notice);
     Ok(())
 }
 
@@ -46,7 +46,7 @@ fn show<S: State>(writer: &mut Writer<S>, caller: &mut Caller<S>) -> Result<(), 
 }
 
 /// What each caller has seen is a beginning of the journal.
-fn meet_all<S: State, R: Wait>(
+fn take_in_all<S: State, R: Wait>(
     rt: &R,
     writer: &mut Writer<S>,
     callers: &mut [Caller<S>],
@@ -57,7 +57,7 @@ fn meet_all<S: State, R: Wait>(
     ensures ok { OnOk result (HaveSeen (length callers.new) writer.new.journal callers.new) }
 {
     for at in 0..callers.len() {
-        meet(rt, writer, &mut callers[at])?;
+        take_in(rt, writer, &mut callers[at])?;
     }
     Ok(())
 }
@@ -88,7 +88,7 @@ pub(crate) fn tell_all<S: State, R: Wait>(
     ensures ok { OnOk result (All (λ caller. caller.reader.seen ≡ writer.new.journal) callers.new) }
     ensures seen { OnOk result (HaveSeen (length callers.old) writer.new.journal callers.old) }
 {
-    meet_all(rt, writer, callers)?;
+    take_in_all(rt, writer, callers)?;
     show_all(writer, callers)
 }
 

@@ -10,7 +10,7 @@ use Rattle.map_model.specs.SetOperations.{union, intersect, difference}
 use Rattle.map_model.proofs.Filters.{filter-all_keys}
 use Rattle.map_model.proofs.Keys.{AllKeys-all}
 use Rattle.map_model.proofs.Unions.{united, IsIncreasing-union, nil-union, union-split_first, union-split_second}
-use Rattle.map_model.proofs.Intersections.{met, IsIncreasing-intersect, intersect-split_first, intersect-split_second}
+use Rattle.map_model.proofs.Intersections.{of_both, IsIncreasing-intersect, intersect-split_first, intersect-split_second}
 use Rattle.map_model.proofs.Differences.{IsIncreasing-difference, difference-split_first, difference-split_second}
 use Rattle.bulk_ops.specs.Combination.{IsCombination, entry_at, unless}
 
@@ -31,17 +31,17 @@ module _ {K V : Type 0} {order : K → K → Ordering} (total : IsTotalOrder ord
     split_second = λ a l k w r s t. union-split_second total exact f a l k w r s t;
   }
 
-  pub intersection_laws : (f : V → V → V) → IsCombination order (intersect order f) (met f) false false
+  pub intersection_laws : (f : V → V → V) → IsCombination order (intersect order f) (of_both f) false false
   intersection_laws f = record {
     increases = λ a b s t. IsIncreasing-intersect order f a b s;
     first_alone = λ a s. intersect-nil order f a;
     second_alone = λ b t. refl;
     split_first = λ l k v r b s t.
         intersect-split_first total exact f l k v r b s
-        ∙ elim (lookup order b k) as (λ o. intersect order f l (below order b k) ++ cons_option (option_map (λ w. (k, f v w)) o) (intersect order f r (above order b k)) ≡ intersect order f l (below order b k) ++ cons_option (entry_at k (met f (Some v) o)) (intersect order f r (above order b k))) [ None ↦ refl | Some w ↦ refl ];
+        ∙ elim (lookup order b k) as (λ o. intersect order f l (below order b k) ++ cons_option (option_map (λ w. (k, f v w)) o) (intersect order f r (above order b k)) ≡ intersect order f l (below order b k) ++ cons_option (entry_at k (of_both f (Some v) o)) (intersect order f r (above order b k))) [ None ↦ refl | Some w ↦ refl ];
     split_second = λ a l k w r s t.
         intersect-split_second total exact f a l k w r s t
-        ∙ elim (lookup order a k) as (λ o. intersect order f (below order a k) l ++ cons_option (option_map (λ v. (k, f v w)) o) (intersect order f (above order a k) r) ≡ intersect order f (below order a k) l ++ cons_option (entry_at k (met f o (Some w))) (intersect order f (above order a k) r)) [ None ↦ refl | Some v ↦ refl ];
+        ∙ elim (lookup order a k) as (λ o. intersect order f (below order a k) l ++ cons_option (option_map (λ v. (k, f v w)) o) (intersect order f (above order a k) r) ≡ intersect order f (below order a k) l ++ cons_option (entry_at k (of_both f o (Some w))) (intersect order f (above order a k) r)) [ None ↦ refl | Some v ↦ refl ];
   }
 
   pub difference_laws : IsCombination {V = V} order (difference order) unless true false

@@ -1,7 +1,7 @@
 //! Intersection.
 ghost use Rattle.std.specs.Prelude.{◌≡◌, false, IfOk};
 ghost use Rattle.map_model.specs.SetOperations.{intersect as intersection_of_entries};
-ghost use Rattle.map_model.proofs.Intersections.{met};
+ghost use Rattle.map_model.proofs.Intersections.{of_both};
 ghost use Rattle.bulk_ops.specs.Laws.{intersection_laws};
 
 use crate::combination::Combination;
@@ -22,7 +22,7 @@ struct Intersecting<'a, H> {
 impl<'a, K: Key, V: Share, H: Resolve<V>> Combination<K, V> for Intersecting<'a, H> {
     ghost combined = { λ work. intersection_of_entries K.cmp (H.resolved work.how.now) };
 
-    ghost kept = { λ work. met (H.resolved work.how.now) };
+    ghost kept = { λ work. of_both (H.resolved work.how.now) };
 
     ghost first_stays = { λ _. false };
 

@@ -2,7 +2,7 @@
 ghost use Rattle.std.specs.Prelude.{◌≡◌, ◌∷◌, ◌++◌, length, IfOk};
 ghost use Rattle.map_model.specs.Fold.{reduce};
 
-use crate::block::{meet_around, reduce_leaf};
+use crate::block::{combine_around, reduce_leaf};
 use aug_monoid::{Augment, Leaf, NoMemory, Reduce, SyncAugment, SyncReduce};
 use fork_join::{Cut, Divide, Gate, Opened, divide, divide_alone};
 use std::alloc::Global;
@@ -22,7 +22,7 @@ impl<'a, A: Augment, L: Leaf<A::Key, A::Val>, S: BlockSize, M: Reduce<A::Key, A:
 > for Reducing<'a, M> {
     ghost fits = { λ _ _. Unit {0} };
 
-    ghost answers = { λ work part out. out ≡ reduce (M.image_of work.how.now) (M.unit_of work.how.now) (M.met work.how.now) part.now.entries };
+    ghost answers = { λ work part out. out ≡ reduce (M.image_of work.how.now) (M.unit_of work.how.now) (M.combined work.how.now) part.now.entries };
 
     ghost divides = { λ _ part front middle back. part.now.entries ≡ front.now.entries ++ (middle.0.now, middle.1.now) ∷ back.now.entries };
 
@@ -59,11 +59,11 @@ impl<'a, A: Augment, L: Leaf<A::Key, A::Val>, S: BlockSize, M: Reduce<A::Key, A:
         middle: (&'a A::Key, &'a A::Val),
         right: M::Out,
     ) -> Result<M::Out, NoMemory> {
-        meet_around::<A::Key, A::Val, M>(alloc, self.how, left, middle.0, middle.1, right)
+        combine_around::<A::Key, A::Val, M>(alloc, self.how, left, middle.0, middle.1, right)
     }
 }
 
-/// What `how` makes of each entry, met in the order of the keys, and its unit for no entries. Linear in
+/// What `how` makes of each entry, combined in the order of the keys, and its unit for no entries. Linear in
 /// the number of entries. `NoMemory` for want of memory alone.
 pub fn map_reduce<
     R: Threads + Sync,
@@ -80,7 +80,7 @@ pub fn map_reduce<
     tree: &TreeOver<A, L, S>,
     how: &M,
 ) -> Result<M::Out, NoMemory>
-    ensures { IfOk result (λ out. out ≡ reduce (M.image_of how.now) (M.unit_of how.now) (M.met how.now) tree.now.entries) }
+    ensures { IfOk result (λ out. out ≡ reduce (M.image_of how.now) (M.unit_of how.now) (M.combined how.now) tree.now.entries) }
 {
     divide(rt, alloc, gate, cut, &Reducing { how }, tree)
 }
@@ -93,7 +93,7 @@ pub fn map_reduce_alone<
     S: BlockSize,
     M: Reduce<A::Key, A::Val>,
 >(alloc: Global, tree: &TreeOver<A, L, S>, how: &M) -> Result<M::Out, NoMemory>
-    ensures { IfOk result (λ out. out ≡ reduce (M.image_of how.now) (M.unit_of how.now) (M.met how.now) tree.now.entries) }
+    ensures { IfOk result (λ out. out ≡ reduce (M.image_of how.now) (M.unit_of how.now) (M.combined how.now) tree.now.entries) }
 {
     divide_alone(alloc, &Reducing { how }, tree)
 }

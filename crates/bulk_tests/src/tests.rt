@@ -246,7 +246,7 @@ impl Reduce<u64, u64> for KeySum {
 
     ghost unit_of = { λ _. 0 };
 
-    ghost met = { λ _ a b. min (a + b) (2 ^ 64 - 1) };
+    ghost combined = { λ _ a b. min (a + b) (2 ^ 64 - 1) };
 
     ghost image_fits = { λ _ key _. Prim.omega arith };
 
@@ -266,7 +266,7 @@ impl Reduce<u64, u64> for KeySum {
         0
     }
 
-    fn meet(&self, _alloc: Global, a: u64, b: u64) -> Result<u64, NoMemory> {
+    fn combine(&self, _alloc: Global, a: u64, b: u64) -> Result<u64, NoMemory> {
         Ok(a.saturating_add(b))
     }
 }

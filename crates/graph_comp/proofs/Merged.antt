@@ -9,7 +9,7 @@ use Rattle.std.proofs.lemmas.List.Elements.{All-cons, All-contains, All-contains
 use Rattle.std.proofs.lemmas.Map.Views.{exact_unsigned_eq}
 use Rattle.graph_snap.specs.Edges.{pairs_of}
 use Rattle.graph_snap.specs.declared.edge.Edge.{Edge}
-use Rattle.graph_comp.specs.Components.{AreComponents, AreJoined, IsLeastJoined, components, least_joined, met}
+use Rattle.graph_comp.specs.Components.{AreComponents, AreJoined, IsLeastJoined, components, least_joined, united}
 use Rattle.graph_comp.specs.Forests.{KeepsEdges}
 use Rattle.graph_comp.specs.declared.labelled.Labelled.{Labelled}
 use Rattle.graph_comp.proofs.Joined.{IsLabelling, joined_back, joined_itself, joined_next, joined_on, same_least, settled_least}
@@ -34,8 +34,8 @@ module _ (g : List (ℕ × ℕ)) where
     taken : (v : ℕ) → AreJoined g v (label e.0) → min (label e.0) (label e.1) ≤ v → AreJoined g v (min (label e.0) (label e.1)) × (min (label e.0) (label e.1) ≤ v)
     taken v a low = (lesser_is (λ x. AreJoined g v x) (label e.0) (label e.1) a (joined_on g v (label e.0) (label e.1) a ends_joined), low)
 
-    met_at : (v : ℕ) → AreJoined g v (met label e v) × (met label e v ≤ v)
-    met_at v =
+    united_at : (v : ℕ) → AreJoined g v (united label e v) × (united label e v ≤ v)
+    united_at v =
         let low : label v ≤ v = are.low v in
         elim (label v == label e.0) as (λ b. label v == label e.0 ≡ b → AreJoined g v (cond (b || label v == label e.1) (min (label e.0) (label e.1)) (label v)) × (cond (b || label v == label e.1) (min (label e.0) (label e.1)) (label v) ≤ v)) [
           | true ↦ λ is.
@@ -49,37 +49,37 @@ module _ (g : List (ℕ × ℕ)) where
           ] refl
         ] refl
 
-    met_labels : IsLabelling g (met label e)
-    met_labels = record { joined = λ v. (met_at v).0; low = λ v. (met_at v).1 }
+    united_labels : IsLabelling g (united label e)
+    united_labels = record { joined = λ v. (united_at v).0; low = λ v. (united_at v).1 }
 
-  all_labels : (es : List (ℕ × ℕ)) (label : ℕ → ℕ) → All (Contains g) es → IsLabelling g label → IsLabelling g (fold met label es)
+  all_labels : (es : List (ℕ × ℕ)) (label : ℕ → ℕ) → All (Contains g) es → IsLabelling g label → IsLabelling g (fold united label es)
   all_labels [] label within are = are
-  all_labels (e ∷ es) label within are = all_labels es (met label e) (All-tail (Contains g) e es within) (met_labels label are e (All-head (Contains g) e es within))
+  all_labels (e ∷ es) label within are = all_labels es (united label e) (All-tail (Contains g) e es within) (united_labels label are e (All-head (Contains g) e es within))
 
   -- ---- both ends of an edge have one label
 
-  still_same : (es : List (ℕ × ℕ)) (label : ℕ → ℕ) (u v : ℕ) → label u ≡ label v → fold met label es u ≡ fold met label es v
+  still_same : (es : List (ℕ × ℕ)) (label : ℕ → ℕ) (u v : ℕ) → label u ≡ label v → fold united label es u ≡ fold united label es v
   still_same [] label u v h = h
-  still_same (e ∷ es) label u v h = still_same es (met label e) u v (ap (λ x. cond (x == label e.0 || x == label e.1) (min (label e.0) (label e.1)) x) h)
+  still_same (e ∷ es) label u v h = still_same es (united label e) u v (ap (λ x. cond (x == label e.0 || x == label e.1) (min (label e.0) (label e.1)) x) h)
 
-  ends_same : (label : ℕ → ℕ) (e : ℕ × ℕ) → met label e e.0 ≡ met label e e.1
+  ends_same : (label : ℕ → ℕ) (e : ℕ × ℕ) → united label e e.0 ≡ united label e e.1
   ends_same label e =
       ap (λ b. cond (b || label e.0 == label e.1) (min (label e.0) (label e.1)) (label e.0)) (eq-eqb (label e.0) (label e.0) refl)
       ∙ sym (ap (λ b. cond b (min (label e.0) (label e.1)) (label e.1)) (or_right (label e.1 == label e.0) (label e.1 == label e.1) (eq-eqb (label e.1) (label e.1) refl)))
 
-  all_same : (es : List (ℕ × ℕ)) (label last : ℕ → ℕ) → last ≡ fold met label es → All (λ (e : ℕ × ℕ). last e.0 ≡ last e.1) es
+  all_same : (es : List (ℕ × ℕ)) (label last : ℕ → ℕ) → last ≡ fold united label es → All (λ (e : ℕ × ℕ). last e.0 ≡ last e.1) es
   all_same [] label last is = All-nil (λ (e : ℕ × ℕ). last e.0 ≡ last e.1)
   all_same (e ∷ es) label last is =
       All-cons (λ (e : ℕ × ℕ). last e.0 ≡ last e.1) e es
-      (subst (λ (f : ℕ → ℕ). f e.0 ≡ f e.1) (sym is) (still_same es (met label e) e.0 e.1 (ends_same label e)))
-      (all_same es (met label e) last is)
+      (subst (λ (f : ℕ → ℕ). f e.0 ≡ f e.1) (sym is) (still_same es (united label e) e.0 e.1 (ends_same label e)))
+      (all_same es (united label e) last is)
 
   pub least_is : (v : ℕ) → IsLeastJoined g v (least_joined g v)
   unfolding least_joined
   least_is =
-      settled_least g (fold met (λ v. v) g)
+      settled_least g (fold united (λ v. v) g)
       (all_labels g (λ v. v) (All-contains_itself g) (record { joined = joined_itself g; low = λ v. omega arith }))
-      (λ u v here. All-contains (λ (e : ℕ × ℕ). fold met (λ v. v) g e.0 ≡ fold met (λ v. v) g e.1) g (u, v) (all_same g (λ v. v) (fold met (λ v. v) g) refl) here)
+      (λ u v here. All-contains (λ (e : ℕ × ℕ). fold united (λ v. v) g e.0 ≡ fold united (λ v. v) g e.1) g (u, v) (all_same g (λ v. v) (fold united (λ v. v) g) refl) here)
 
   -- ---- the relation determines the list
 
@@ -99,7 +99,7 @@ module _ (g : List (ℕ × ℕ)) where
 pub keeps_least : (edges : List Edge) → KeepsEdges (least_joined (pairs_of edges)) edges
 unfolding least_joined
 keeps_least edges k d lt =
-    let label = fold met (λ (v : ℕ). v) (pairs_of edges) in
+    let label = fold united (λ (v : ℕ). v) (pairs_of edges) in
     let as_pair : Edge → ℕ × ℕ = λ e. (e.from, e.to) in
     let long : k < length (pairs_of edges) = omega (arith, length-map edges as_pair) in
     subst (λ (e : ℕ × ℕ). label e.0 ≡ label e.1) (get_or-map as_pair edges k d (d.from, d.to) lt)

@@ -50,22 +50,22 @@ module _ (vertices : List ℕ) where
         );
   }
 
-  -- the forests of two parts met
+  -- the forests of two parts united
   pub spans_both : (front back : List Edge) (left right new : List ℕ) → Spans vertices front left → Spans vertices back right
       → IsForest new → length new ≡ length left
       → ((label : ℕ → ℕ) → KeepsTrees label new ↔ (KeepsTrees label left × KeepsTrees label right))
       → Spans vertices (front ++ back) new
-  spans_both front back left right new a b forest len met = record {
+  spans_both front back left right new a b forest len united = record {
     forest = forest;
     whole = len ∙ a.whole;
     joined = λ label.
         let P = λ (e : Edge). label e.from ≡ label e.to in (
           (λ keeps.
-              let both = (met (over label)).0 keeps in
+              let both = (united (over label)).0 keeps in
               All-append P front back ((a.joined label).0 both.0) ((b.joined label).0 both.1)),
           (λ keeps.
               let both = all_of_parts P front back keeps in
-              (met (over label)).1 ((a.joined label).1 both.0, (b.joined label).1 both.1)),
+              (united (over label)).1 ((a.joined label).1 both.0, (b.joined label).1 both.1)),
         );
   }
 

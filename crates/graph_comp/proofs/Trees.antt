@@ -185,24 +185,24 @@ united before first second after one other near far same_first same_second of_ne
       (joined label).1 (keeps_second, of_near label keeps_first ∙ keeps.1 ∙ sym (of_far label keeps_second))),
 )
 
--- ---- two forests met
+-- ---- two forests united
 
 -- the trees of a forest before, and of another's first places
-abbrev pub MetSo : List ℕ → List ℕ → List ℕ → ℕ → Type 0
-MetSo parents before others n = (label : ℕ → ℕ) → KeepsTrees label parents ↔ (KeepsTrees label before × ((k : ℕ) → k < n → label (get_or others k 0) ≡ label k))
+abbrev pub UnitedSo : List ℕ → List ℕ → List ℕ → ℕ → Type 0
+UnitedSo parents before others n = (label : ℕ → ℕ) → KeepsTrees label parents ↔ (KeepsTrees label before × ((k : ℕ) → k < n → label (get_or others k 0) ≡ label k))
 
-pub met_none : (parents others : List ℕ) → MetSo parents parents others 0
-met_none parents others label = ((λ keeps. (keeps, λ k lt. absurd (omega arith))), (λ keeps. keeps.0))
+pub united_none : (parents others : List ℕ) → UnitedSo parents parents others 0
+united_none parents others label = ((λ keeps. (keeps, λ k lt. absurd (omega arith))), (λ keeps. keeps.0))
 
-pub met_more : (new parents before others : List ℕ) (i : ℕ) → MetSo parents before others i
-    → ((label : ℕ → ℕ) → KeepsTrees label new ↔ (KeepsTrees label parents × (label i ≡ label (get_or others i 0)))) → MetSo new before others (i + 1)
-met_more new parents before others i met one label = (
+pub united_more : (new parents before others : List ℕ) (i : ℕ) → UnitedSo parents before others i
+    → ((label : ℕ → ℕ) → KeepsTrees label new ↔ (KeepsTrees label parents × (label i ≡ label (get_or others i 0)))) → UnitedSo new before others (i + 1)
+united_more new parents before others i united one label = (
   (λ keeps.
       let both = (one label).0 keeps in
-      let so_far = (met label).0 both.0 in
+      let so_far = (united label).0 both.0 in
       (so_far.0, below_more (λ k. label (get_or others k 0) ≡ label k) i so_far.1 (sym both.1))),
-  (λ keeps. (one label).1 ((met label).1 (keeps.0, λ k lt. keeps.1 k (omega arith)), sym (keeps.1 i (omega arith)))),
+  (λ keeps. (one label).1 ((united label).1 (keeps.0, λ k lt. keeps.1 k (omega arith)), sym (keeps.1 i (omega arith)))),
 )
 
-pub met_all : (parents before others : List ℕ) (n : ℕ) → n ≡ length others → MetSo parents before others n → (label : ℕ → ℕ) → KeepsTrees label parents ↔ (KeepsTrees label before × KeepsTrees label others)
-met_all parents before others n is met = subst (MetSo parents before others) is met
+pub united_all : (parents before others : List ℕ) (n : ℕ) → n ≡ length others → UnitedSo parents before others n → (label : ℕ → ℕ) → KeepsTrees label parents ↔ (KeepsTrees label before × KeepsTrees label others)
+united_all parents before others n is united = subst (UnitedSo parents before others) is united

@@ -36,12 +36,12 @@ pub record AreComponents (g : List (ℕ × ℕ)) (list : List Labelled) : Type 0
   pub labels : All (λ (l : Labelled). IsLeastJoined g l.vertex l.label) list
 
 -- an edge makes the components of its two ends one, with the lesser of their labels
-abbrev pub met : (ℕ → ℕ) → ℕ × ℕ → ℕ → ℕ
-met label e v = cond (label v == label e.0 || label v == label e.1) (min (label e.0) (label e.1)) (label v)
+abbrev pub united : (ℕ → ℕ) → ℕ × ℕ → ℕ → ℕ
+united label e v = cond (label v == label e.0 || label v == label e.1) (min (label e.0) (label e.1)) (label v)
 
 -- the least vertex that a vertex is joined with: without edges the vertex itself, and each edge joins two components
 unfoldable pub least_joined : List (ℕ × ℕ) → ℕ → ℕ
-least_joined g = fold met (λ v. v) g
+least_joined g = fold united (λ v. v) g
 
 -- what is told of a graph's components
 unfoldable pub components : List (ℕ × ℕ) → List Labelled

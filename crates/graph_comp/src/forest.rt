@@ -68,13 +68,13 @@ pub(crate) fn unite(parents: &mut [usize], one: usize, other: usize)
 }
 
 /// Makes those trees one that another forest over the same places makes one.
-pub(crate) fn meet(parents: &mut [usize], others: &[usize])
+pub(crate) fn unite_all(parents: &mut [usize], others: &[usize])
     requires forest { IsForest parents.old }
     requires others { IsForest others.now }
     requires len { length others.now ≡ length parents.old }
     ensures forest { IsForest parents.new }
     ensures len { length parents.new ≡ length parents.old }
-    ensures met { (label : ℕ → ℕ) → KeepsTrees label parents.new ↔ (KeepsTrees label parents.old × KeepsTrees label others.now) }
+    ensures united { (label : ℕ → ℕ) → KeepsTrees label parents.new ↔ (KeepsTrees label parents.old × KeepsTrees label others.now) }
 {
     for (place, parent) in others.iter().enumerate() {
         unite(parents, place, *parent);

@@ -71,7 +71,7 @@ fn components_of<R: Threads + Sync, G: Gate>(
 /// between each two of which that follow each other there is an edge in one of the two directions.
 ///
 /// For n vertices and m edges it takes O(m * log n) time, and forks where the cut allows it: each part of the edges is made a forest
-/// by a union-find of its own, and forests are met pairwise. The answer depends on neither the runtime nor the gate nor the cut.
+/// by a union-find of its own, and forests are united pairwise. The answer depends on neither the runtime nor the gate nor the cut.
 /// `NoMemory` for want of memory alone.
 pub fn components<R: Threads + Sync, G: Gate>(
     rt: &R,

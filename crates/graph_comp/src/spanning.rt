@@ -2,7 +2,7 @@
 ghost use Rattle.std.specs.Prelude.{◌≡◌, ◌++◌, [], length, IfOk};
 ghost use Rattle.graph_comp.specs.Forests.{HasEnds, Spans};
 
-use crate::forest::{meet, roots, unite};
+use crate::forest::{roots, unite};
 use crate::vertices::place_of;
 use aug_monoid::NoMemory;
 use fork_join::{Cut, Divide, Gate, Opened, divide};
@@ -76,7 +76,7 @@ impl<'a> Divide<&'a [Edge], (), Vec<usize>> for Spanning<'a> {
         _middle: (),
         right: Vec<usize>,
     ) -> Result<Vec<usize>, NoMemory> {
-        meet(left.as_mut_slice(), right.as_slice());
+        unite_all(left.as_mut_slice(), right.as_slice());
         Ok(left)
     }
 }

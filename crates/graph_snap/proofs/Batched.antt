@@ -12,7 +12,7 @@ use Rattle.map_model.specs.Entries.{IsIncreasing, lookup}
 use Rattle.map_model.specs.Operations.{build}
 use Rattle.map_model.specs.SetOperations.{difference, intersect, union}
 use Rattle.map_model.proofs.Differences.{IsIncreasing-difference, lookup-difference}
-use Rattle.map_model.proofs.Intersections.{IsIncreasing-intersect, lookup-intersect, met}
+use Rattle.map_model.proofs.Intersections.{IsIncreasing-intersect, lookup-intersect, of_both}
 use Rattle.map_model.proofs.Keys.{IsIncreasing-filter}
 use Rattle.map_model.proofs.Lookups.{first_found, lookup-filter, option_or-none}
 use Rattle.map_model.proofs.NatKeys.{nat_exact}
@@ -127,7 +127,7 @@ module _ (sets batch : Sets) (are : AreSets sets) (be : AreSets batch) where
 
   -- what is left at a vertex where the maps have o and p
   abbrev left_at : Option (List (ℕ × Unit {0})) → Option (List (ℕ × Unit {0})) → Option (List (ℕ × Unit {0}))
-  left_at o p = united (λ x y. x) (cond (is_none p) o None) (option_and_then if_filled (met (difference nat_cmp) o p))
+  left_at o p = united (λ x y. x) (cond (is_none p) o None) (option_and_then if_filled (of_both (difference nat_cmp) o p))
 
   common_rises : IsIncreasing nat_cmp (intersect nat_cmp (difference nat_cmp) sets batch)
   common_rises = IsIncreasing-intersect nat_cmp (difference nat_cmp) sets batch are.increasing

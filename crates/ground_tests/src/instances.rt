@@ -167,7 +167,7 @@ impl<K, V> Reduce<K, V> for Count {
 
     ghost unit_of = { λ _. 0 };
 
-    ghost met = { λ _ a b. min (a + b) (2 ^ 64 - 1) };
+    ghost combined = { λ _ a b. min (a + b) (2 ^ 64 - 1) };
 
     ghost image_fits = { λ _ _ _. omega arith };
 
@@ -181,7 +181,7 @@ impl<K, V> Reduce<K, V> for Count {
         0
     }
 
-    fn meet(&self, _alloc: Global, a: u64, b: u64) -> Result<u64, NoMemory> {
+    fn combine(&self, _alloc: Global, a: u64, b: u64) -> Result<u64, NoMemory> {
         Ok(a.saturating_add(b))
     }
 }
@@ -197,7 +197,7 @@ impl Project<SumMax<u64>> for SumAlone {
 
     ghost image_of = { λ _ aug. aug.sum };
 
-    ghost met = { λ _ a b. min (a + b) (2 ^ 64 - 1) };
+    ghost combined = { λ _ a b. min (a + b) (2 ^ 64 - 1) };
 
     ghost image_fits = { λ _ aug fits. fits.0 };
 
@@ -209,7 +209,7 @@ impl Project<SumMax<u64>> for SumAlone {
         Ok(aug.sum)
     }
 
-    fn meet(&self, _alloc: Global, a: u64, b: u64) -> Result<u64, NoMemory> {
+    fn combine(&self, _alloc: Global, a: u64, b: u64) -> Result<u64, NoMemory> {
         Ok(a.saturating_add(b))
     }
 }
@@ -223,9 +223,9 @@ fn reduced<R: Abort, M: SyncReduce<u64, u64>>(
     right: (u64, u64),
 ) -> M::Out {
     let first = how.of(alloc, &left.0, &left.1).expect(rt, "memory");
-    let both = how.meet(alloc, how.unit(), first).expect(rt, "memory");
+    let both = how.combine(alloc, how.unit(), first).expect(rt, "memory");
     let second = how.of(alloc, &right.0, &right.1).expect(rt, "memory");
-    how.meet(alloc, both, second).expect(rt, "memory")
+    how.combine(alloc, both, second).expect(rt, "memory")
 }
 
 fn projected<R: Abort, A: SyncAugment, P: Project<A>>(
@@ -237,7 +237,7 @@ fn projected<R: Abort, A: SyncAugment, P: Project<A>>(
 ) -> P::Out {
     let first = how.image(alloc, left).expect(rt, "memory");
     let second = how.image(alloc, right).expect(rt, "memory");
-    how.meet(alloc, first, second).expect(rt, "memory")
+    how.combine(alloc, first, second).expect(rt, "memory")
 }
 
 #[test]

@@ -12,7 +12,7 @@ use Rattle.std.proofs.lemmas.List.Sorted.{All-permutation, sum_by-IsPermutation,
 use Rattle.map_model.specs.Entries.{IsIncreasing, lookup}
 use Rattle.map_model.specs.SetOperations.{difference, intersect, union}
 use Rattle.map_model.proofs.Differences.{IsIncreasing-difference, lookup-difference}
-use Rattle.map_model.proofs.Intersections.{IsIncreasing-intersect, met, lookup-intersect}
+use Rattle.map_model.proofs.Intersections.{IsIncreasing-intersect, of_both, lookup-intersect}
 use Rattle.map_model.proofs.Lookups.{equal_lookups}
 use Rattle.map_model.proofs.Unions.{united, lookup-union}
 use Rattle.map_model.proofs.NatKeys.{nat_exact}
@@ -32,17 +32,17 @@ weight_at q p = unwrap_or (lookup nat_cmp p q) 0
 abbrev pub has_at : ℕ → List (ℕ × ℕ) → Bool
 has_at q p = is_some (lookup nat_cmp p q)
 
-lookup-common : (ps : List (List (ℕ × ℕ))) (a : List (ℕ × ℕ)) (q : ℕ) → lookup nat_cmp (common a ps) q ≡ fold (λ o p. met sat o (lookup nat_cmp p q)) (lookup nat_cmp a q) ps
+lookup-common : (ps : List (List (ℕ × ℕ))) (a : List (ℕ × ℕ)) (q : ℕ) → lookup nat_cmp (common a ps) q ≡ fold (λ o p. of_both sat o (lookup nat_cmp p q)) (lookup nat_cmp a q) ps
 lookup-common [] a q = refl
-lookup-common (p ∷ ps) a q = lookup-common ps (intersect nat_cmp sat a p) q ∙ ap (λ o. fold (λ o p. met sat o (lookup nat_cmp p q)) o ps) (lookup-intersect nat_exact sat a p q)
+lookup-common (p ∷ ps) a q = lookup-common ps (intersect nat_cmp sat a p) q ∙ ap (λ o. fold (λ o p. of_both sat o (lookup nat_cmp p q)) o ps) (lookup-intersect nat_exact sat a p q)
 
 common_value : (q : ℕ) (ps : List (List (ℕ × ℕ))) (w : ℕ) → w ≤ limit
-    → fold (λ o p. met sat o (lookup nat_cmp p q)) (Some w) ps ≡ cond (list_all (has_at q) ps) (Some (min (w + sum_by (weight_at q) ps) limit)) None
+    → fold (λ o p. of_both sat o (lookup nat_cmp p q)) (Some w) ps ≡ cond (list_all (has_at q) ps) (Some (min (w + sum_by (weight_at q) ps) limit)) None
 common_value q [] w low = ap Some (omega arith)
 common_value q (p ∷ ps) w low =
     let S = sum_by (weight_at q) ps in
-    elim (lookup nat_cmp p q) as (λ o. fold (λ o p. met sat o (lookup nat_cmp p q)) (met sat (Some w) o) ps ≡ cond (is_some o && list_all (has_at q) ps) (Some (min (w + (unwrap_or o 0 + S)) limit)) None) [
-      | None ↦ fold_stays (λ o p. met sat o (lookup nat_cmp p q)) None (λ p. refl) ps
+    elim (lookup nat_cmp p q) as (λ o. fold (λ o p. of_both sat o (lookup nat_cmp p q)) (of_both sat (Some w) o) ps ≡ cond (is_some o && list_all (has_at q) ps) (Some (min (w + (unwrap_or o 0 + S)) limit)) None) [
+      | None ↦ fold_stays (λ o p. of_both sat o (lookup nat_cmp p q)) None (λ p. refl) ps
       | Some v ↦ common_value q ps (sat w v) (omega arith) ∙ ap (λ n. cond (list_all (has_at q) ps) (Some n) None) (let same : min (sat w v + S) limit ≡ min (w + (v + S)) limit = omega arith in same)
     ] ∙ ap (λ n. cond (list_all (has_at q) (p ∷ ps)) (Some (min (w + n) limit)) None) (sym (sum_by-cons (weight_at q) p ps))
 
@@ -131,7 +131,7 @@ module _ (D : List (ℕ × ℕ)) (P : Lists) (index : IsIndex D P) where
       lookup-intersect nat_exact sat D (postings_at P t) q
       ∙ at_known (lookup nat_cmp D q) (lookup nat_cmp (postings_at P t) q) (known_at t q) (index.zero_weights q) ((rises_at t).1 q))
     where
-      at_known : (o p : Option ℕ) → ((w : ℕ) → p ≡ Some w → is_some o ≡ true) → ((w : ℕ) → o ≡ Some w → w ≡ 0) → ((w : ℕ) → p ≡ Some w → w ≤ limit) → met sat o p ≡ p
+      at_known : (o p : Option ℕ) → ((w : ℕ) → p ≡ Some w → is_some o ≡ true) → ((w : ℕ) → o ≡ Some w → w ≡ 0) → ((w : ℕ) → p ≡ Some w → w ≤ limit) → of_both sat o p ≡ p
       at_known None None known zero fit = refl
       at_known None (Some w) known zero fit = absurd (let bad : false ≡ true = known w refl in cc)
       at_known (Some v) None known zero fit = refl
@@ -196,9 +196,9 @@ module _ (D : List (ℕ × ℕ)) (P : Lists) (index : IsIndex D P) where
       (list_all-IsPermutation (has_at q) (map (postings_at P) terms) ps moved ∙ list_all-map (has_at q) (postings_at P) terms ∙ all_alike (λ t. has_at q (postings_at P t)) (λ t. has t (q, terms_in P q)) (λ t. sym (has_term q t)) terms)
       (sum_by-IsPermutation (weight_at q) (map (postings_at P) terms) ps moved ∙ sym (total_terms q terms))))
     where
-      start : (q : ℕ) (o : Option ℕ) → ((w : ℕ) → o ≡ Some w → w ≡ 0) → fold (λ o p. met sat o (lookup nat_cmp p q)) o ps ≡ cond (is_some o) (cond (list_all (has_at q) ps) (Some (min (sum_by (weight_at q) ps) limit)) None) None
-      start q None h = fold_stays (λ o p. met sat o (lookup nat_cmp p q)) None (λ p. refl) ps
-      start q (Some w) h = ap (λ n. fold (λ o p. met sat o (lookup nat_cmp p q)) (Some n) ps) (h w refl) ∙ common_value q ps 0 (omega arith) ∙ ap (λ n. cond (list_all (has_at q) ps) (Some (min n limit)) None) (let same : 0 + sum_by (weight_at q) ps ≡ sum_by (weight_at q) ps = omega arith in same)
+      start : (q : ℕ) (o : Option ℕ) → ((w : ℕ) → o ≡ Some w → w ≡ 0) → fold (λ o p. of_both sat o (lookup nat_cmp p q)) o ps ≡ cond (is_some o) (cond (list_all (has_at q) ps) (Some (min (sum_by (weight_at q) ps) limit)) None) None
+      start q None h = fold_stays (λ o p. of_both sat o (lookup nat_cmp p q)) None (λ p. refl) ps
+      start q (Some w) h = ap (λ n. fold (λ o p. of_both sat o (lookup nat_cmp p q)) (Some n) ps) (h w refl) ∙ common_value q ps 0 (omega arith) ∙ ap (λ n. cond (list_all (has_at q) ps) (Some (min n limit)) None) (let same : 0 + sum_by (weight_at q) ps ≡ sum_by (weight_at q) ps = omega arith in same)
 
   pub any_of-union_all : (terms : List (List ℕ)) → IsIncreasing nat_cmp (union_all [] (map (postings_at P) terms)) → union_all [] (map (postings_at P) terms) ≡ any_of (documents_of D P) terms
   any_of-union_all terms rises = answered (λ d. list_any (λ t. has t d) terms) (λ d. total_in d terms) P D (union_all [] (map (postings_at P) terms)) index.known_rise rises (λ q.

@@ -68,7 +68,7 @@ fn the_intervals_that_have_a_number(rt: HostRuntime) {
     assert_stabs(&rt, rt.alloc(), &all(&rt, rt.alloc()));
 }
 
-/// A range, and the ends of the intervals that meet it.
+/// A range, and the ends of the intervals that overlap it.
 const OVERLAPS: &[(u64, u64, &[(u64, u64)])] = &[
     (1, 1, &[]),
     (0, 1, &[(0, 0)]),
@@ -84,7 +84,7 @@ fn assert_overlaps<R: Abort>(rt: &R, alloc: Global, intervals: &Intervals) {
 }
 
 #[test]
-fn the_intervals_that_meet_a_range(rt: HostRuntime) {
+fn the_intervals_that_overlap_a_range(rt: HostRuntime) {
     assert_overlaps(&rt, rt.alloc(), &all(&rt, rt.alloc()));
 }
 

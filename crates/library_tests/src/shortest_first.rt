@@ -1,4 +1,4 @@
-//! That `all_of` meets the shortest postings first: then no two long ones meet, and nothing forks. Where memory is refused, a test
+//! That `all_of` intersects the shortest postings first: then no two long ones are intersected, and nothing forks. Where memory is refused, a test
 //! ends here.
 use fork_join::{Cut, FreeGate, Gate};
 use inverted_index::{Doc, Index, Term};
@@ -77,7 +77,7 @@ fn found<R: Threads + Abort + Sync>(
 }
 
 /// Words, how many documents have all of them, and how often the gate is entered: by both halves of a fork where two long postings
-/// meet.
+/// are intersected.
 const ROWS: &[(&[&[u8]], (usize, u64))] = &[
     (&[b"all", b"every"], (6000, 2)),
     (&[b"all", b"every", b"few"], (6, 0)),

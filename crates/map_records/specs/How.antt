@@ -1,4 +1,4 @@
--- How two values meet, by its word.
+-- How two values are combined, by its word.
 use Rattle.std.specs.Prelude.{ℕ, List, codes, Result, Ok, Option, Some, None, if◌then◌else◌}
 use Rattle.std.specs.Str.{bytes_eq}
 use Rattle.map_records.specs.declared.how.How.{How}
@@ -10,7 +10,7 @@ use Rattle.script.specs.Shapes.{with_fields}
 use Rattle.script.specs.declared.fault.Code.{Code}
 use Rattle.script.specs.declared.fault.Code.TheVariants as code
 
--- how two values meet
+-- how two values are combined
 unfoldable pub how_named : List ℕ → Option How
 how_named word =
     if bytes_eq word (codes "first") then Some how.First
@@ -22,7 +22,7 @@ how_named word =
 abbrev pub how_in : Fields → ℕ → Result How Code
 how_in r i = or_code code.How (how_named (field r i))
 
--- a verb, three registers and how two values meet
+-- a verb, three registers and how two values are combined
 abbrev pub three_registers_how : Fields → Result (ℕ × ℕ × ℕ × How) Code
 three_registers_how r = with_fields 5 r (do
   a ← register_in r 1

@@ -1,4 +1,4 @@
-//! How two values meet, and the fields of a record that tell it.
+//! How two values are combined, and the fields of a record that tell it.
 ghost use Rattle.std.specs.Prelude.{◌≡◌};
 ghost use Rattle.csv.specs.Records.{fields_of};
 ghost use Rattle.map_records.specs.How.{how_in, how_named, three_registers_how};
@@ -8,7 +8,7 @@ use csv::ByteRecord;
 use script::Code;
 use script::fields::field_at;
 
-/// How the value of `a` and the value of `b` meet at a key that both have.
+/// How the value of `a` and the value of `b` are combined at a key that both have.
 #[derive(Clone, Copy, Debug, PartialEq, Eq)]
 pub enum How {
     /// The value of `a`.
@@ -38,14 +38,14 @@ fn how_of(word: &[u8]) -> Option<How>
     }
 }
 
-// How two values meet, by the word at a place.
+// How two values are combined, by the word at a place.
 fn how_at(row: &ByteRecord, place: usize) -> Result<How, Code>
     ensures { result ≡ how_in (fields_of row.now) place }
 {
     how_of(field_at(row, place)).ok_or(Code::How)
 }
 
-/// The fields of a verb, three registers and how two values meet.
+/// The fields of a verb, three registers and how two values are combined.
 pub(crate) fn three_registers_how(row: &ByteRecord) -> Result<(u8, u8, u8, How), Code>
     ensures { result ≡ three_registers_how (fields_of row.now) }
 {

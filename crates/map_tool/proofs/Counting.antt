@@ -1,4 +1,4 @@
--- Counts of entries, met with saturation.
+-- Counts of entries, combined with saturation.
 use Rattle.std.proofs.Common.{◌≡◌, ℕ, ◌+◌, ◌-◌, ◌^◌, ◌<◌, Bool, true, false, cond, List, [], ◌∷◌, length, min, refl, arith}
 use Rattle.std.specs.List.{filter}
 use Rattle.map_model.specs.Fold.{reduce}

@@ -8,7 +8,7 @@ use Rattle.std.proofs.lemmas.Bool.{not-false, ltb-true}
 use Rattle.map_model.specs.Entries.{AllAbove, IsBefore, IsIncreasing}
 use Rattle.map_model.proofs.Keys.{AllKeys-all, below_all}
 use Rattle.map_model.proofs.NatKeys.{less-nat_cmp}
-use Rattle.map_tool.specs.Values.{ends_meet, overlaps}
+use Rattle.map_tool.specs.Values.{ends_overlap, overlaps}
 
 -- the last of some entries
 some_last : (e : ℕ × ℕ) (a : List (ℕ × ℕ)) → (x : ℕ × ℕ) × (slice_get (e ∷ a) (length a) ≡ Some x)
@@ -30,6 +30,6 @@ joins_before [] b s t apart = tt
 joins_before (e ∷ a) [] s t apart = AllKeys-all (λ k. AllAbove {V = ℕ} nat_cmp [] k) (λ k. tt) (e ∷ a)
 joins_before (e ∷ a) (y ∷ b) s t apart =
     let last = some_last e a in
-    let meet : not (nat_lt last.0.0 y.0) ≡ false = subst (λ o. ends_meet o (Some y) ≡ false) (ap (slice_get (e ∷ a)) {x = length (e ∷ a) - 1} {y = length a} (omega arith) ∙ last.1) apart in
-    let less : nat_cmp last.0.0 y.0 ≡ Less = less-nat_cmp last.0.0 y.0 (ltb-true last.0.0 y.0 (not-false (nat_lt last.0.0 y.0) meet)) in
+    let overlap : not (nat_lt last.0.0 y.0) ≡ false = subst (λ o. ends_overlap o (Some y) ≡ false) (ap (slice_get (e ∷ a)) {x = length (e ∷ a) - 1} {y = length a} (omega arith) ∙ last.1) apart in
+    let less : nat_cmp last.0.0 y.0 ≡ Less = less-nat_cmp last.0.0 y.0 (ltb-true last.0.0 y.0 (not-false (nat_lt last.0.0 y.0) overlap)) in
     before_ends e a (y ∷ b) s last.0 last.1 (less, below_all nat_cmp_total last.0.0 y.0 b less t.0)

@@ -1,4 +1,4 @@
--- Counts, met with saturation.
+-- Counts, combined with saturation.
 use Rattle.std.proofs.Common.{ℕ, ◌+◌, ◌-◌, ◌^◌, ◌≤◌, Bool, true, false, cond, min, arith}
 use Rattle.map_model.specs.Fold.{IsMonoidOver}
 

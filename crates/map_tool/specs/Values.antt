@@ -41,11 +41,11 @@ abbrev pub entry_numbers : ℕ × ℕ → List ℕ
 entry_numbers e = e.0 ∷ e.1 ∷ []
 
 -- a last entry whose key isn't less than that of a first one
-abbrev pub ends_meet : Option (ℕ × ℕ) → Option (ℕ × ℕ) → Bool
-ends_meet None first = false
-ends_meet (Some last) None = false
-ends_meet (Some last) (Some first) = not (nat_lt last.0 first.0)
+abbrev pub ends_overlap : Option (ℕ × ℕ) → Option (ℕ × ℕ) → Bool
+ends_overlap None first = false
+ends_overlap (Some last) None = false
+ends_overlap (Some last) (Some first) = not (nat_lt last.0 first.0)
 
 -- both maps have entries, and the greatest key of a isn't less than the least key of b
 abbrev pub overlaps : List (ℕ × ℕ) → List (ℕ × ℕ) → Bool
-overlaps a b = ends_meet (slice_get a (length a - 1)) (slice_get b 0)
+overlaps a b = ends_overlap (slice_get a (length a - 1)) (slice_get b 0)

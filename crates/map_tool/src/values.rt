@@ -1,4 +1,4 @@
-//! What the tool asks of values: tests, counts, and how two values meet.
+//! What the tool asks of values: tests, counts, and how two values are combined.
 ghost use Rattle.std.specs.Prelude.{◌≡◌, ◌+◌, ◌-◌, ◌^◌, ◌&&◌, ℕ, cond, min, max, nat_le};
 ghost use Rattle.aug_monoid.specs.declared.totals.Totals.{Totals};
 ghost use Rattle.map_tool.specs.Counts.{CountFits, count_fits, count_monoid};
@@ -9,7 +9,7 @@ use aug_monoid::{AugTest, NoMemory, Project, Reduce, Resolve, SumMax, Test, Tota
 use map_records::How;
 use std::alloc::Global;
 
-/// How the values of two maps meet.
+/// How the values of two maps are combined.
 #[derive(Drop)]
 pub(crate) struct ByHow {
     pub(crate) how: How,
@@ -52,7 +52,7 @@ impl Reduce<u64, u64> for Within {
 
     ghost unit_of = { λ _. 0 };
 
-    ghost met = { λ _ a b. min (a + b) (2 ^ 64 - 1) };
+    ghost combined = { λ _ a b. min (a + b) (2 ^ 64 - 1) };
 
     ghost image_fits = { λ s _ val. count_fits (nat_le s.lo val && nat_le val s.hi) };
 
@@ -66,7 +66,7 @@ impl Reduce<u64, u64> for Within {
         0
     }
 
-    fn meet(&self, _alloc: Global, a: u64, b: u64) -> Result<u64, NoMemory> {
+    fn combine(&self, _alloc: Global, a: u64, b: u64) -> Result<u64, NoMemory> {
         Ok(a.saturating_add(b))
     }
 }
@@ -98,7 +98,7 @@ impl Project<SumMax<u64>> for Greatest {
 
     ghost image_of = { λ _ aug. aug.greatest };
 
-    ghost met = { λ _ a b. max a b };
+    ghost combined = { λ _ a b. max a b };
 
     ghost image_fits = { λ _ aug fits. greatest_fits aug fits };
 
@@ -110,7 +110,7 @@ impl Project<SumMax<u64>> for Greatest {
         Ok(aug.greatest)
     }
 
-    fn meet(&self, _alloc: Global, a: u64, b: u64) -> Result<u64, NoMemory> {
+    fn combine(&self, _alloc: Global, a: u64, b: u64) -> Result<u64, NoMemory> {
         Ok(a.max(b))
     }
 }

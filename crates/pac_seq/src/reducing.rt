@@ -17,7 +17,7 @@ fn reduce_block<F: Fold, C: Ledger>(
     steps: &mut Steps<C>,
 ) -> F::Sum
     requires { from + count ≤ length items.now }
-    ensures value { result ≡ sum_of F.image_of F.unit_of F.met (take count (drop from items.now)) }
+    ensures value { result ≡ sum_of F.image_of F.unit_of F.combined (take count (drop from items.now)) }
     ensures cost { steps.new ≤ steps.old + count }
 {
     let (_, rest) = items.split_at(from as usize);
@@ -35,7 +35,7 @@ fn reduce_part<F: Fold, S: BlockSize, C: Ledger>(
     steps: &mut Steps<C>,
 ) -> F::Sum
     requires { from + count ≤ length part.tree.now.items }
-    ensures value { result ≡ sum_of F.image_of F.unit_of F.met (take count (drop from part.entry.tree.now.items)) }
+    ensures value { result ≡ sum_of F.image_of F.unit_of F.combined (take count (drop from part.entry.tree.now.items)) }
     ensures whole { count ≡ length part.entry.tree.now.items → steps.new ≤ steps.old }
     ensures front { from ≡ 0 → steps.new ≤ steps.old + (2 * part.entry.tree.now.height + 2 * S.SIZE) }
     ensures back { from + count ≡ length part.entry.tree.now.items → steps.new ≤ steps.old + (2 * part.entry.tree.now.height + 2 * S.SIZE) }
@@ -60,10 +60,10 @@ fn reduce_part<F: Fold, S: BlockSize, C: Ledger>(
                 return reduce_part(alloc, Part { tree: left }, from, count, steps);
             }
             let front = reduce_part(alloc, Part { tree: left }, from, before - from, steps);
-            let front = F::meet(&front, &F::of(item), steps);
+            let front = F::combine(&front, &F::of(item), steps);
             let rest = from + count - before - 1;
             let back = reduce_part(alloc, Part { tree: right }, 0, rest, steps);
-            F::meet(&front, &back, steps)
+            F::combine(&front, &back, steps)
         }
     }
 }
@@ -78,7 +78,7 @@ impl<F: Fold, S: BlockSize> SeqOver<F, S> {
         count: u64,
         steps: &mut Steps<C>,
     ) -> F::Sum
-        ensures value { result ≡ sum_of F.image_of F.unit_of F.met (take count (drop from self.now.items)) }
+        ensures value { result ≡ sum_of F.image_of F.unit_of F.combined (take count (drop from self.now.items)) }
         ensures cost { steps.new ≤ steps.old + (8 * self.now.height + 16 * S.SIZE) }
     {
         let size = self.tree.size();

@@ -61,7 +61,7 @@ impl<F: Fold, S: BlockSize> SeqOver<F, S> {
 
     /// The sum of all items, which is stored. It takes no memory. O(1).
     pub fn sum(&self, alloc: Global) -> F::Sum
-        ensures { result ≡ sum_of F.image_of F.unit_of F.met self.now.items }
+        ensures { result ≡ sum_of F.image_of F.unit_of F.combined self.now.items }
     {
         self.tree.sum(alloc)
     }

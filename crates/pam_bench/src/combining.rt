@@ -106,7 +106,7 @@ impl Reduce<u64, u64> for WholeSum {
 
     ghost unit_of = { λ _. 0 };
 
-    ghost met = { λ _ a b. min (a + b) (2 ^ 64 - 1) };
+    ghost combined = { λ _ a b. min (a + b) (2 ^ 64 - 1) };
 
     ghost image_fits = { λ _ key val. Prim.omega arith };
 
@@ -126,7 +126,7 @@ impl Reduce<u64, u64> for WholeSum {
         0
     }
 
-    fn meet(&self, _alloc: Global, a: u64, b: u64) -> Result<u64, NoMemory> {
+    fn combine(&self, _alloc: Global, a: u64, b: u64) -> Result<u64, NoMemory> {
         Ok(a.saturating_add(b))
     }
 }

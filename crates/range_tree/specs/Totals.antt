@@ -1,4 +1,4 @@
--- Totals of rows, and how they meet.
+-- Totals of rows, and how they are combined.
 use Rattle.std.specs.Prelude.{◌≡◌, ℕ, ◌+◌, ◌-◌, ◌^◌, ◌≤◌, Bool, true, false, cond, ◌&&◌, List, [], ◌∷◌, ◌++◌, length, min, sum_by, refl, None}
 use Rattle.std.proofs.Common.{sym, ap, ap₂, ◌∙◌, arith, length-append}
 use Rattle.std.specs.List.{filter}

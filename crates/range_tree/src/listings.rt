@@ -46,7 +46,7 @@ impl Project<Places> for RowPoints {
 
     ghost image_of = { λ s rows. rows_points s.y1 s.y2 rows };
 
-    ghost met = { λ _ a b. a ++ b };
+    ghost combined = { λ _ a b. a ++ b };
 
     ghost image_fits = { λ _ _ _. tt };
 
@@ -62,7 +62,7 @@ impl Project<Places> for RowPoints {
         Ok(Listed { entries })
     }
 
-    fn meet(&self, _alloc: Global, a: Listed, b: Listed) -> Result<Listed, NoMemory> {
+    fn combine(&self, _alloc: Global, a: Listed, b: Listed) -> Result<Listed, NoMemory> {
         let mut entries = a.entries;
         let mut rest = b.entries;
         entries.append(&mut rest)?;

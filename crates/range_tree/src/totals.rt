@@ -27,7 +27,7 @@ impl Project<Places> for RowTotal {
 
     ghost image_of = { λ s rows. rows_total s.y1 s.y2 rows };
 
-    ghost met = { λ _. total_both };
+    ghost combined = { λ _. total_both };
 
     ghost image_fits = { λ s rows _. rows_total_fits s.y1 s.y2 rows };
 
@@ -45,7 +45,7 @@ impl Project<Places> for RowTotal {
         )
     }
 
-    fn meet(&self, _alloc: Global, a: Total, b: Total) -> Result<Total, NoMemory> {
+    fn combine(&self, _alloc: Global, a: Total, b: Total) -> Result<Total, NoMemory> {
         Ok(Total {
             sum: a.sum.saturating_add(b.sum),
             count: a.count.saturating_add(b.count),

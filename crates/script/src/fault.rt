@@ -19,7 +19,7 @@ pub enum Code {
     Number,
     /// A field is no number from 0 to 15.
     Register,
-    /// A field is no word for how two values meet.
+    /// A field is no word for how two values are combined.
     How,
     /// A field is no term: it is empty, or has a byte that is no ASCII letter or digit.
     Term,

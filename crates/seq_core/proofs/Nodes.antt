@@ -7,13 +7,13 @@ use Rattle.seq_core.specs.Contents.{Contents}
 use Rattle.seq_core.specs.Sums.{sum_of}
 use Rattle.seq_core.specs.Shape.{IsNode}
 
-module _ {E X : Type 0} (image : E → X) (unit : X) (meet : X → X → X) (block : ℕ) where
+module _ {E X : Type 0} (image : E → X) (unit : X) (combine : X → X → X) (block : ℕ) where
   pub is_node : (before : ℕ) (left : Contents E) (item : E) (right : Contents E) (sum : X) (size height : ℕ)
-      → IsBlockSize block → before ≡ length left.items → sum ≡ sum_of image unit meet (left.items ++ item ∷ right.items)
+      → IsBlockSize block → before ≡ length left.items → sum ≡ sum_of image unit combine (left.items ++ item ∷ right.items)
       → size ≡ length left.items + length right.items + 1 → size < 2 ^ 60 → height ≡ max left.height right.height + 1
       → IsBalanced (weight left.items) (weight right.items) → FillsNode block (length left.items) (length right.items)
       → HeightLaw block left.height (length left.items) → HeightLaw block right.height (length right.items)
-      → IsNode image unit meet block before left item right sum size height
+      → IsNode image unit combine block before left item right sum size height
   is_node before left item right sum size height block_size before_is sum_is size_is size_fits height_is balanced filled left_law right_law =
       record {
         block_size = block_size;

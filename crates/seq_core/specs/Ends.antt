@@ -7,12 +7,12 @@ abbrev pub ends_of : ℕ → Option Pair64
 ends_of n = Some (record { first = n; second = n })
 
 -- the first of the front, and the last of the back
-abbrev pub ends_met : Option Pair64 → Option Pair64 → Option Pair64
-ends_met None b = b
-ends_met (Some a) None = Some a
-ends_met (Some a) (Some b) = Some (record { first = a.first; second = b.second })
+abbrev pub ends_combined : Option Pair64 → Option Pair64 → Option Pair64
+ends_combined None b = b
+ends_combined (Some a) None = Some a
+ends_combined (Some a) (Some b) = Some (record { first = a.first; second = b.second })
 
-pub ends_monoid : IsMonoidOver (λ _. Unit {0}) None ends_met
+pub ends_monoid : IsMonoidOver (λ _. Unit {0}) None ends_combined
 ends_monoid = record {
   unit_fits = tt;
   combine_fits = λ _ _ _ _. tt;
@@ -21,11 +21,11 @@ ends_monoid = record {
   assoc = λ a b c _ _ _. associative a b c;
 }
   where
-    right : (a : Option Pair64) → ends_met a None ≡ a
+    right : (a : Option Pair64) → ends_combined a None ≡ a
     right None = refl
     right (Some a) = refl
 
-    associative : (a b c : Option Pair64) → ends_met (ends_met a b) c ≡ ends_met a (ends_met b c)
+    associative : (a b c : Option Pair64) → ends_combined (ends_combined a b) c ≡ ends_combined a (ends_combined b c)
     associative None b c = refl
     associative (Some a) None c = refl
     associative (Some a) (Some b) None = refl

@@ -15,6 +15,6 @@ module _ {F S E X : Type 0} where
 
   -- the shape of a sequence
   abbrev pub IsTop : (E → X) → X → (X → X → X) → ℕ → Top F S E X → Type 0
-  IsTop image unit meet block (Empty _) = IsBlockSize block
-  IsTop image unit meet block (Block b) = IsBlock image unit meet block b.value.items.items b.value.sum
-  IsTop image unit meet block (Node n) = IsNode image unit meet block n.value.before n.value.left n.value.item n.value.right n.value.sum n.value.size n.value.height
+  IsTop image unit combine block (Empty _) = IsBlockSize block
+  IsTop image unit combine block (Block b) = IsBlock image unit combine block b.value.items.items b.value.sum
+  IsTop image unit combine block (Node n) = IsNode image unit combine block n.value.before n.value.left n.value.item n.value.right n.value.sum n.value.size n.value.height

@@ -1,6 +1,6 @@
 //! The first and the last of numbers.
 ghost use Rattle.std.specs.Prelude.{◌≡◌, ◌+◌, Some, None};
-ghost use Rattle.seq_core.specs.Ends.{ends_of, ends_met, ends_monoid};
+ghost use Rattle.seq_core.specs.Ends.{ends_of, ends_combined, ends_monoid};
 
 use crate::fold::Fold;
 use aug_monoid::{Pair64, Steps};
@@ -21,7 +21,7 @@ impl Fold for Ends {
 
     ghost unit_of = { None };
 
-    ghost met = { ends_met };
+    ghost combined = { ends_combined };
 
     ghost image_fits = { λ _. tt };
 
@@ -42,7 +42,7 @@ impl Fold for Ends {
         None
     }
 
-    fn meet<C: Ledger>(
+    fn combine<C: Ledger>(
         a: &Option<Pair64>,
         b: &Option<Pair64>,
         steps: &mut Steps<C>,

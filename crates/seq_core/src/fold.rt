@@ -6,7 +6,7 @@ use aug_monoid::{Share, Steps};
 use std::marker::{Send, Sync};
 use std::sync::ledger::Ledger;
 
-/// Items, and sums of them: a sum of each item, and how the sums of two lists that follow one another meet. No call takes
+/// Items, and sums of them: a sum of each item, and how the sums of two lists that follow one another are combined. No call takes
 /// memory.
 pub trait Fold: Drop {
     type Item: Share;
@@ -20,7 +20,7 @@ pub trait Fold: Drop {
 
     ghost unit_of: { Self.Sum };
 
-    ghost met: { Self.Sum → Self.Sum → Self.Sum };
+    ghost combined: { Self.Sum → Self.Sum → Self.Sum };
 
     /// The sum of one item.
     fn of(item: &Self::Item) -> Self::Sum
@@ -31,13 +31,13 @@ pub trait Fold: Drop {
         ensures { result ≡ unit_of };
 
     /// The sum of the items of both, those of `a` first. One step.
-    fn meet<C: Ledger>(a: &Self::Sum, b: &Self::Sum, steps: &mut Steps<C>) -> Self::Sum
-        ensures value { result ≡ met a.now b.now }
+    fn combine<C: Ledger>(a: &Self::Sum, b: &Self::Sum, steps: &mut Steps<C>) -> Self::Sum
+        ensures value { result ≡ combined a.now b.now }
         ensures one_step { steps.new ≡ steps.old + 1 };
 
     ghost image_fits: { (item : Self.Item) → Fits (image_of item) };
 
-    ghost monoid: { IsMonoidOver Fits unit_of met };
+    ghost monoid: { IsMonoidOver Fits unit_of combined };
 
     ghost items_never_refuse: { Self.Item.never_refuses };
 

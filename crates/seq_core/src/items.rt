@@ -58,12 +58,12 @@ pub fn copy_items<F: Fold>(alloc: Global, from: &[F::Item]) -> Result<Vec<F::Ite
 
 /// The sum of items, in as many steps.
 pub fn sum_items<F: Fold, C: Ledger>(items: &[F::Item], steps: &mut Steps<C>) -> F::Sum
-    ensures value { result ≡ sum_of F.image_of F.unit_of F.met items.now }
+    ensures value { result ≡ sum_of F.image_of F.unit_of F.combined items.now }
     ensures cost { steps.new ≤ steps.old + length items.now }
 {
     let mut sum = F::unit();
     for item in items {
-        sum = F::meet(&sum, &F::of(item), steps);
+        sum = F::combine(&sum, &F::of(item), steps);
     }
     sum
 }
@@ -73,7 +73,7 @@ fn sum_counted<F: Fold, C: Ledger>(items: &[F::Item], blank: Blank) -> F::Sum
     requires name { blank.name ≡ C.name }
     requires parts { blank.parts ≡ C.parts }
     requires some { 0 < blank.parts }
-    ensures { result ≡ sum_of F.image_of F.unit_of F.met items.now }
+    ensures { result ≡ sum_of F.image_of F.unit_of F.combined items.now }
 {
     let mut steps = Steps::<C>::start(blank);
     sum_items::<F, C>(items, &mut steps)
@@ -81,12 +81,12 @@ fn sum_counted<F: Fold, C: Ledger>(items: &[F::Item], blank: Blank) -> F::Sum
 
 /// The sum of items, of which nobody counts the steps.
 pub(crate) fn sum_uncounted<F: Fold>(items: &[F::Item]) -> F::Sum
-    ensures { result ≡ sum_of F.image_of F.unit_of F.met items.now }
+    ensures { result ≡ sum_of F.image_of F.unit_of F.combined items.now }
 {
     sum_counted::<F, Brand>(items, Blank::new(1))
 }
 
-/// The sums of two lists met with an item between them, with a counter of its own.
+/// The sums of two lists combined with an item between them, with a counter of its own.
 fn around_counted<F: Fold, C: Ledger>(
     left: &F::Sum,
     item: &F::Item,
@@ -96,16 +96,16 @@ fn around_counted<F: Fold, C: Ledger>(
     requires name { blank.name ≡ C.name }
     requires parts { blank.parts ≡ C.parts }
     requires some { 0 < blank.parts }
-    ensures { result ≡ F.met (F.met left.now (F.image_of item.now)) right.now }
+    ensures { result ≡ F.combined (F.combined left.now (F.image_of item.now)) right.now }
 {
     let mut steps = Steps::<C>::start(blank);
-    let front = F::meet(left, &F::of(item), &mut steps);
-    F::meet(&front, right, &mut steps)
+    let front = F::combine(left, &F::of(item), &mut steps);
+    F::combine(&front, right, &mut steps)
 }
 
-/// The sums of two lists met with an item between them, of which nobody counts the steps.
+/// The sums of two lists combined with an item between them, of which nobody counts the steps.
 pub(crate) fn sum_around<F: Fold>(left: &F::Sum, item: &F::Item, right: &F::Sum) -> F::Sum
-    ensures { result ≡ F.met (F.met left.now (F.image_of item.now)) right.now }
+    ensures { result ≡ F.combined (F.combined left.now (F.image_of item.now)) right.now }
 {
     around_counted::<F, Brand>(left, item, right, Blank::new(1))
 }

@@ -21,7 +21,7 @@ impl Fold for SumTop {
 
     ghost unit_of = { totals_unit };
 
-    ghost met = { totals_combine };
+    ghost combined = { totals_combine };
 
     ghost image_fits = { totals_base_fits };
 
@@ -45,7 +45,7 @@ impl Fold for SumTop {
         }
     }
 
-    fn meet<C: Ledger>(a: &Totals, b: &Totals, steps: &mut Steps<C>) -> Totals {
+    fn combine<C: Ledger>(a: &Totals, b: &Totals, steps: &mut Steps<C>) -> Totals {
         steps.tick();
         Totals {
             sum: a.sum.saturating_add(b.sum),

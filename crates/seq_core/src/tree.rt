@@ -64,7 +64,7 @@ impl<F: Fold, S: BlockSize> Model for SeqTree<F, S> {
 
     ghost view = { λ t. contents t.top };
 
-    ghost invariant = { λ t. IsTop F.image_of F.unit_of F.met S.SIZE t.top };
+    ghost invariant = { λ t. IsTop F.image_of F.unit_of F.combined S.SIZE t.top };
 
     ghost size = { λ c. length c.items };
 
@@ -110,7 +110,7 @@ impl<F: Fold, S: BlockSize> SeqTree<F, S> {
 
     /// The sum of the items, which is stored. It takes no memory. O(1).
     pub fn sum(&self, alloc: Global) -> F::Sum
-        ensures { result ≡ sum_of F.image_of F.unit_of F.met self.now.items }
+        ensures { result ≡ sum_of F.image_of F.unit_of F.combined self.now.items }
     {
         match &self.top {
             Top::Empty(_) => F::unit(),

@@ -90,7 +90,7 @@ fn answer<R: Wait + Abort>(rt: &R, writer: &mut Writer<Served>, reader: &mut Rea
     ensures { reader.new.root ≡ reader.old.root }
 {
     match reader.note() {
-        Ok(notice) => writer.meet(rt, notice),
+        Ok(notice) => writer.take_in(rt, notice),
         Err(_) => panic!(rt; "memory"),
     }
 }

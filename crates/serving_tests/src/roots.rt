@@ -79,7 +79,7 @@ fn answer<R: Wait + Abort>(rt: &R, writer: &mut Writer<Guarded>, reader: &mut Re
     requires { reader.old.root ≡ writer.old.root }
 {
     match reader.note() {
-        Ok(notice) => writer.meet(rt, notice),
+        Ok(notice) => writer.take_in(rt, notice),
         Err(_) => panic!(rt; "memory"),
     }
 }

@@ -98,10 +98,10 @@ impl<S: State> Writer<S> {
     }
 
     /// Takes in a reader's notice: what it tells of is a beginning of the writer's journal. It takes no memory.
-    pub fn meet<R: Wait>(&mut self, _rt: &R, notice: Notice<S>)
+    pub fn take_in<R: Wait>(&mut self, _rt: &R, notice: Notice<S>)
         requires { notice.root ≡ self.old.root }
         ensures same { self.new ≡ self.old }
-        ensures met { IsPrefix notice.seen self.new.journal }
+        ensures seen { IsPrefix notice.seen self.new.journal }
     {
         let Notice { root: _, seat } = notice;
         take_in_first(&self.root.shared, &mut self.seat, seat);

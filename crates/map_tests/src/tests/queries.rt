@@ -41,7 +41,7 @@ impl Project<SumMax<u64>> for Greatest {
 
     ghost image_of = { λ _ aug. aug.greatest };
 
-    ghost met = { λ _ a b. max a b };
+    ghost combined = { λ _ a b. max a b };
 
     ghost image_fits = { λ _ aug fits. fits.1 };
 
@@ -53,7 +53,7 @@ impl Project<SumMax<u64>> for Greatest {
         Ok(aug.greatest)
     }
 
-    fn meet(&self, _alloc: Global, a: u64, b: u64) -> Result<u64, NoMemory> {
+    fn combine(&self, _alloc: Global, a: u64, b: u64) -> Result<u64, NoMemory> {
         Ok(a.max(b))
     }
 }

@@ -40,7 +40,7 @@ impl Reduce<u64, u64> for Count {
 
     ghost unit_of = { λ _. 0 };
 
-    ghost met = { λ _ a b. min (a + b) (2 ^ 64 - 1) };
+    ghost combined = { λ _ a b. min (a + b) (2 ^ 64 - 1) };
 
     ghost image_fits = { λ _ _ _. omega arith };
 
@@ -54,7 +54,7 @@ impl Reduce<u64, u64> for Count {
         0
     }
 
-    fn meet(&self, _alloc: Global, a: u64, b: u64) -> Result<u64, NoMemory> {
+    fn combine(&self, _alloc: Global, a: u64, b: u64) -> Result<u64, NoMemory> {
         Ok(a.saturating_add(b))
     }
 }

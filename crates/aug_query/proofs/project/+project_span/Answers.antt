@@ -31,12 +31,12 @@ pub returns-in_ok-back-in-Node : goal.returns-in_ok-back-in-Node
 returns-in_ok-back-in-Node g t c =
     let law = g.met.A.Augment in
     let image = g.P.Project.image_of c.args.how.now in
-    let met = g.P.Project.met c.args.how.now in
+    let combined = g.P.Project.combined c.args.how.now in
     let node = c.in-Node.ensures.top in
     let front = rw c.left_part.ensures at c.in_ok-front-in-Node.ensures in
     let back = rw c.right_part.ensures at c.in_ok-back-in-Node.ensures in
-    let parts = image_inside g.met.A.Key.Ord.total law.monoid law.base_fits image met (g.met.P.Project.projection c.args.how.now) c.args.span.range c.args.span.tree.now.entries c.in-Node.left.now.entries c.in-Node.key.now c.in-Node.val.now c.in-Node.right.now.entries node.entries_are node.increasing (sym c.ends_before.ensures.value ∙ c.if-ends_before.false) (sym c.begins_after.ensures.value ∙ c.if-begins_after.false) in
-    IfOk-weaker c.meet_around.result _ _ (λ x h. h ∙ ap₂ (λ l r. met l (met (image (g.A.Augment.base_of c.in-Node.key.now c.in-Node.val.now)) r)) front back ∙ sym parts) c.meet_around.ensures
+    let parts = image_inside g.met.A.Key.Ord.total law.monoid law.base_fits image combined (g.met.P.Project.projection c.args.how.now) c.args.span.range c.args.span.tree.now.entries c.in-Node.left.now.entries c.in-Node.key.now c.in-Node.val.now c.in-Node.right.now.entries node.entries_are node.increasing (sym c.ends_before.ensures.value ∙ c.if-ends_before.false) (sym c.begins_after.ensures.value ∙ c.if-begins_after.false) in
+    IfOk-weaker c.combine_around.result _ _ (λ x h. h ∙ ap₂ (λ l r. combined l (combined (image (g.A.Augment.base_of c.in-Node.key.now c.in-Node.val.now)) r)) front back ∙ sym parts) c.combine_around.ensures
 
 pub returns-in-Empty : goal.returns-in-Empty
 returns-in-Empty g t c = rw c.in-Empty.ensures.top (rw c.unit.ensures at c.image.ensures)

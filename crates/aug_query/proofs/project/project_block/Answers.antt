@@ -29,7 +29,7 @@ loop-at-preserved g c =
     let augment = g.A.Augment in
     let entries = g.L.Leaf.entries c.args.leaf.now in
     let entry : slice_get entries c.loop-at._at ≡ Some (entry_of c.in-Some.entry) = sym (rw c.loop-at.invariant.1 at c.walk_next.ensures.value) ∙ ap (option_map entry_of) c.in-Some.is in
-    let more = image_more g.met.A.Key.Ord.total c.args.range.now entries c.loop-at._at (entry_of c.in-Some.entry).0 (entry_of c.in-Some.entry).1 entry law.monoid law.base_fits (g.P.Project.image_of c.args.how.now) (g.P.Project.met c.args.how.now) (g.met.P.Project.projection c.args.how.now) c.requires (sym (rw c.key-key.ensures at c.ends_before.ensures.value) ∙ c.if-ends_before.false) (sym (rw c.key-key.ensures at c.begins_after.ensures.value) ∙ c.if-begins_after.false) in
+    let more = image_more g.met.A.Key.Ord.total c.args.range.now entries c.loop-at._at (entry_of c.in-Some.entry).0 (entry_of c.in-Some.entry).1 entry law.monoid law.base_fits (g.P.Project.image_of c.args.how.now) (g.P.Project.combined c.args.how.now) (g.met.P.Project.projection c.args.how.now) c.requires (sym (rw c.key-key.ensures at c.ends_before.ensures.value) ∙ c.if-ends_before.false) (sym (rw c.key-key.ensures at c.begins_after.ensures.value) ∙ c.if-begins_after.false) in
     (c.in_ok-out-2.ensures ∙ rw (c.loop-at.invariant.0, rw (c.key-key.ensures, c.val.ensures) at c.in_ok-image.ensures) (sym more), search rules, search rules)
 
 pub unreachable-requires : goal.unreachable-requires

@@ -20,7 +20,7 @@ returns-else-from-count-clause-value g t c =
     let far : length left < c.args.from + c.args.count = omega (arith, c.if-from-count.false, c.in-Node.ensures.top.before_is) in
     let whole = run-around left c.in-Node.item.now right c.args.from c.args.count near far in
     let around = sum-around law.monoid law.image_fits (take (length left - c.args.from) (drop c.args.from left)) c.in-Node.item.now (take (c.args.from + c.args.count - length left - 1) right) in
-    rw (c.in-Node.ensures.top.items_are, whole, around) (rw (c.meet-front.ensures.value, c.reduce_part-front.ensures.value, c.of.ensures, c.reduce_part-back.ensures.value, c.in-Node.ensures.top.before_is) at c.meet.ensures.value)
+    rw (c.in-Node.ensures.top.items_are, whole, around) (rw (c.combine-front.ensures.value, c.reduce_part-front.ensures.value, c.of.ensures, c.reduce_part-back.ensures.value, c.in-Node.ensures.top.before_is) at c.combine.ensures.value)
 
 pub returns-then-before-from-clause-whole : goal.returns-then-before-from-clause-whole
 returns-then-before-from-clause-whole g t c =
@@ -64,13 +64,13 @@ returns-else-from-count-clause-whole g t c =
 
 pub returns-else-from-count-clause-front : goal.returns-else-from-count-clause-front
 returns-else-from-count-clause-front g t c =
-    λ is. let first = c.reduce_part-front.ensures.whole (omega (arith, is, c.in-Node.ensures.top.before_is)) in let second = c.reduce_part-back.ensures.front refl in omega (arith, first, second, c.meet-front.ensures.one_step, c.meet.ensures.one_step, c.in-Node.ensures.top.height_is)
+    λ is. let first = c.reduce_part-front.ensures.whole (omega (arith, is, c.in-Node.ensures.top.before_is)) in let second = c.reduce_part-back.ensures.front refl in omega (arith, first, second, c.combine-front.ensures.one_step, c.combine.ensures.one_step, c.in-Node.ensures.top.height_is)
 
 pub returns-else-from-count-clause-back : goal.returns-else-from-count-clause-back
 returns-else-from-count-clause-back g t c =
     let size = ap length c.in-Node.ensures.top.items_are ∙ length-around c.in-Node.left.now.items c.in-Node.item.now c.in-Node.right.now.items in
-    λ is. let first = c.reduce_part-front.ensures.back (omega (arith, c.if-before-from.false, c.in-Node.ensures.top.before_is)) in let second = c.reduce_part-back.ensures.whole (omega (arith, size, is, c.in-Node.ensures.top.before_is)) in omega (arith, first, second, c.meet-front.ensures.one_step, c.meet.ensures.one_step, c.in-Node.ensures.top.height_is)
+    λ is. let first = c.reduce_part-front.ensures.back (omega (arith, c.if-before-from.false, c.in-Node.ensures.top.before_is)) in let second = c.reduce_part-back.ensures.whole (omega (arith, size, is, c.in-Node.ensures.top.before_is)) in omega (arith, first, second, c.combine-front.ensures.one_step, c.combine.ensures.one_step, c.in-Node.ensures.top.height_is)
 
 pub returns-else-from-count-clause-cost : goal.returns-else-from-count-clause-cost
 returns-else-from-count-clause-cost g t c =
-    let first = c.reduce_part-front.ensures.back (omega (arith, c.if-before-from.false, c.in-Node.ensures.top.before_is)) in let second = c.reduce_part-back.ensures.front refl in omega (arith, first, second, c.meet-front.ensures.one_step, c.meet.ensures.one_step, c.in-Node.ensures.top.height_is)
+    let first = c.reduce_part-front.ensures.back (omega (arith, c.if-before-from.false, c.in-Node.ensures.top.before_is)) in let second = c.reduce_part-back.ensures.front refl in omega (arith, first, second, c.combine-front.ensures.one_step, c.combine.ensures.one_step, c.in-Node.ensures.top.height_is)

@@ -6,4 +6,4 @@ pub loop-item-preserved : goal.loop-item-preserved
 loop-item-preserved g c =
     let law = g.met.F.Fold in
     let more = sum-take_more law.monoid law.image_fits c.args.items.now c.loop-item.item-index c.item-item.result c.loop-item-test.true c.item-item.is in
-    (rw (more, c.meet-sum.ensures.value, c.loop-item.invariant.0, c.of.ensures) refl, omega (arith, c.loop-item.invariant.1, c.meet-sum.ensures.one_step))
+    (rw (more, c.combine-sum.ensures.value, c.loop-item.invariant.0, c.of.ensures) refl, omega (arith, c.loop-item.invariant.1, c.combine-sum.ensures.one_step))

@@ -8,6 +8,6 @@ pub returns : goal.returns
 returns g c =
     let how = c.args.self.now.how.now in
     let laws = g.met.M.Reduce in
-    IfOk-weaker c.meet_around.result _ _ (λ out met part front back is front_is back_is.
+    IfOk-weaker c.combine_around.result _ _ (λ out combined part front back is front_is back_is.
     let node = fold-around (laws.monoid how) (laws.image_fits how) front.now.entries c.args.middle.0.now c.args.middle.1.now back.now.entries in
-    met ∙ rw (front_is, back_is) (sym node) ∙ ap (reduce (g.M.Reduce.image_of how) (g.M.Reduce.unit_of how) (g.M.Reduce.met how)) (sym is)) c.meet_around.ensures
+    combined ∙ rw (front_is, back_is) (sym node) ∙ ap (reduce (g.M.Reduce.image_of how) (g.M.Reduce.unit_of how) (g.M.Reduce.combined how)) (sym is)) c.combine_around.ensures

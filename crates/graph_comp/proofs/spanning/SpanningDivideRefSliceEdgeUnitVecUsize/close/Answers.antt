@@ -8,10 +8,10 @@ pub returns : goal.returns
 returns c = λ part front back is near far.
     let vertices = c.args.self.now.vertices.now in
     let items = c.args.left.items in
-    let new = c.meet.new.parents in
-    let long : length new ≡ length items = c.meet.ensures.len ∙ ap length c.as_mut_slice.ensures.value in
+    let new = c.unite_all.new.parents in
+    let long : length new ≡ length items = c.unite_all.ensures.len ∙ ap length c.as_mut_slice.ensures.value in
     let whole : take c.args.left.len (new ++ drop (length new) items) ≡ new = grind (arith, common_steps) in
     let left = subst (Spans vertices front.now) (sym c.as_mut_slice.ensures.value) near in
     let right = subst (Spans vertices back.now) (sym c.as_slice.ensures.value) far in
     subst (Spans vertices part.now) (sym whole) (subst (λ edges. Spans vertices edges new) (sym is)
-    (spans_both vertices front.now back.now c.as_mut_slice.result.now c.as_slice.result.now new left right c.meet.ensures.forest c.meet.ensures.len c.meet.ensures.met))
+    (spans_both vertices front.now back.now c.as_mut_slice.result.now c.as_slice.result.now new left right c.unite_all.ensures.forest c.unite_all.ensures.len c.unite_all.ensures.united))

@@ -18,7 +18,7 @@ invariant_of-result g c =
     let around = sum-around law.monoid law.image_fits c.args.left.items c.args.item c.args.right.items in
     let sum = rw (c.sum.ensures, c.sum-2.ensures) at c.sum_around-sum.ensures in
     rw c.in_ok-node.ensures
-    (is_node f.image_of f.unit_of f.met g.S.BlockSize.SIZE _ c.args.left c.args.item c.args.right _ _ _
+    (is_node f.image_of f.unit_of f.combined g.S.BlockSize.SIZE _ c.args.left c.args.item c.args.right _ _ _
     c.requires.block_size c.size-before.ensures.value (sum ∙ sym around)
     (omega (arith, c.size-before.ensures.value, c.size.ensures.value)) (omega (arith, c.if-size-ge-MOST_ITEMS.false)) (rw (c.max-height.ensures, c.height.ensures.value, c.height-2.ensures.value) refl)
     c.requires.balanced c.requires.filled c.height.ensures.law c.height-2.ensures.law)

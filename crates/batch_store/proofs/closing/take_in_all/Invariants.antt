@@ -1,6 +1,6 @@
 use Rattle.std.proofs.Common.{◌≡◌}
 use Rattle.batch_store.specs.Hearing.{HaveSeen}
-use Rattle.batch_store.proofs.closing.meet_all.Given as goal
+use Rattle.batch_store.proofs.closing.take_in_all.Given as goal
 
 abbrev pub invariant-loop-at : goal.invariant-loop-at
 invariant-loop-at g l =

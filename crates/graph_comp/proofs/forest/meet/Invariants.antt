@@ -1,7 +1,0 @@
-use Rattle.std.proofs.Common.{◌≡◌, length}
-use Rattle.graph_comp.specs.Forests.{IsForest}
-use Rattle.graph_comp.proofs.Trees.{MetSo}
-use Rattle.graph_comp.proofs.forest.meet.Given as goal
-
-abbrev pub invariant-loop-place : goal.invariant-loop-place
-invariant-loop-place l = record { forest : IsForest l.parents; len : length l.parents ≡ length l.fn.parents; met : MetSo l.parents l.fn.parents l.others l.place }
