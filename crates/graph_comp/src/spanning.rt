@@ -2,7 +2,7 @@
 ghost use Rattle.std.specs.Prelude.{◌≡◌, ◌++◌, [], length, IfOk};
 ghost use Rattle.graph_comp.specs.Forests.{HasEnds, Spans};
 
-use crate::forest::{roots, unite};
+use crate::forest::{roots, unite, unite_all};
 use crate::vertices::place_of;
 use aug_monoid::NoMemory;
 use fork_join::{Cut, Divide, Gate, Opened, divide};
