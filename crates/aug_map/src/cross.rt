@@ -1,11 +1,9 @@
 //! Maps and their cursors cross threads.
 use crate::cursor::CursorOver;
 use crate::map::MapOver;
-use aug_monoid::{Leaf, SyncAugment};
+use aug_monoid::{Leaf, SyncAugment, crosses};
 use std::marker::{Send, Sync};
 use tree_base::BlockSize;
-
-fn crosses<T: Send + Sync>(_value: &T) {}
 
 /// A map and its cursors are sent to and shared among threads. It does nothing, and is there for the proof of that alone.
 pub fn map_crosses<

@@ -10,6 +10,7 @@
 #![tactic(auto)]
 
 mod augment;
+mod cross;
 mod key;
 mod leaf;
 mod leaf_mut;
@@ -28,6 +29,7 @@ mod test;
 mod totals;
 
 pub use augment::{Augment, SyncAugment};
+pub use cross::crosses;
 pub use key::Key;
 pub use leaf::{Leaf, Seek, Walk};
 pub use leaf_mut::LeafMut;

@@ -1,9 +1,8 @@
 //! A block crosses threads.
 use crate::leaf::DiffLeaf;
 use crate::value_code::ValueCode;
+use aug_monoid::crosses;
 use std::marker::{Send, Sync};
-
-fn crosses<T: Send + Sync>(_value: &T) {}
 
 /// A block is sent to and shared among threads where its values are. It does nothing, and is there for the proof of that alone.
 pub fn leaf_crosses<V: ValueCode + Send + Sync>(leaf: &DiffLeaf<V>) {

@@ -1,9 +1,7 @@
 //! Graphs cross threads.
 use crate::edge::{Edge, Reached};
 use crate::graph::Graph;
-use std::marker::{Send, Sync};
-
-fn crosses<T: Send + Sync>(_value: &T) {}
+use aug_monoid::crosses;
 
 /// Graphs, their edges and what searches answer are sent to and shared among threads. It does nothing, and is there for the
 /// proof of that alone.

@@ -1,9 +1,7 @@
 //! Operations and outcomes cross threads.
 use crate::op::Op;
 use crate::outcome::Outcome;
-use std::marker::{Send, Sync};
-
-fn crosses<T: Send + Sync>(_value: &T) {}
+use aug_monoid::crosses;
 
 /// Operations and outcomes are sent to and shared among threads. It does nothing, and is there for the proof of that alone.
 pub fn op_crosses(op: &Op, outcome: &Outcome) {

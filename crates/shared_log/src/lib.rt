@@ -12,7 +12,7 @@ ghost use Rattle.std.specs.Option.{option_copied};
 mod page;
 mod rows;
 
-use aug_monoid::{NoMemory, Share};
+use aug_monoid::{NoMemory, Share, crosses};
 use page::Page;
 use rows::Rows;
 use std::alloc::Global;
@@ -118,8 +118,6 @@ impl<T: Share> Share for SharedLog<T> {
         })
     }
 }
-
-fn crosses<T: Send + Sync>(_value: &T) {}
 
 /// A log is sent to and shared among threads. It does nothing, and is there for the proof of that alone.
 pub(crate) fn log_crosses<T: Share + Send + Sync>(log: &SharedLog<T>) {

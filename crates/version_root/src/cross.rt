@@ -1,11 +1,10 @@
 //! That the ends of a root cross threads, and what a reader answers.
 use crate::{Missed, Notice, Reader, Writer};
-use std::marker::{Send, Sync};
+use aug_monoid::crosses;
+use std::marker::Send;
 use versions::SyncState;
 
 fn sends<T: Send>(_value: &T) {}
-
-fn crosses<T: Send + Sync>(_value: &T) {}
 
 /// Each end is sent to a thread of its own. It does nothing, and is there for the proof of that alone.
 pub(crate) fn ends_cross<S: SyncState>(writer: &Writer<S>, reader: &Reader<S>, notice: &Notice<S>) {

@@ -11,5 +11,6 @@ mod state;
 mod version;
 
 pub use batch::{Batch, Entry};
+pub use cross::state_crosses;
 pub use state::{State, SyncState};
 pub use version::Version;
