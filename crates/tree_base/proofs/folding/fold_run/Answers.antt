@@ -22,3 +22,8 @@ loop-at-preserved g c =
     let more : fold (take (at + 1) (drop start entries)) ≡ c.in_ok-fold-2.fold =
     rw (whole, c.in_ok-fold-2.ensures.value, c.loop-at.invariant.0, index) joined in
     (rw more refl, omega (arith, c.loop-at.invariant.1, c.in_ok-fold-2.ensures.cost), omega (arith, c.in_ok-fold-2.ensures.moved, index), c.in_ok-fold-2.ensures.place)
+
+pub returns-clause-value : goal.returns-clause-value
+returns-clause-value g c =
+    let ended : c.loop-at._at ≡ c.args.count = omega (arith, c.loop-at-test.false) in
+    rw ended at c.loop-at.invariant.0

@@ -1,23 +1,31 @@
 use Rattle.std.proofs.lemmas.Grind.{common_steps}
-use Rattle.std.proofs.Common.{rules, ◌≡◌, ◌+◌, ◌-◌, ◌/◌, ◌≤◌, [], ◌∷◌, ◌++◌, length, sym, ap, ◌∙◌, subst, arith, append_assoc, length-append}
+use Rattle.std.proofs.Common.{rules, ◌≡◌, ◌+◌, ◌-◌, ◌/◌, ◌^◌, ◌<◌, [], ◌∷◌, ◌++◌, length, sym, ap, ◌∙◌, subst, arith, append_assoc}
 use Rattle.map_model.specs.Entries.{IsIncreasing}
-use Rattle.map_model.proofs.Keys.{IsIncreasing-front, IsIncreasing-back}
+use Rattle.map_model.proofs.Keys.{IsIncreasing-back}
 use Rattle.std.proofs.lemmas.Result.{IfOk-weaker}
 use Rattle.tree_base.proofs.Nodes.{length-around, halves_balance, halves_fill}
+use Rattle.tree_base.proofs.Halves.{later_fewer, later_inside, earlier_fewer, rest_increasing, rest_under, rest_enough}
+use Rattle.tree_base.proofs.Refusals.{refused}
 use Rattle.tree_base.proofs.tree.TreeOver.+take_last.Goals as goal
+
+pub take_last-requires : goal.take_last-requires
+take_last-requires g t c κs within =
+    let fewer : c.args.count - 1 - (c.args.count - 1) / 2 < c.args.count = later_fewer _ _ c.if-count-SIZE.false in
+    let enough = later_inside _ _ c.requires.inside in
+    (search rules, (within.0, (within.1.0, (within.1.1.0, (within.1.1.1.0, (within.1.1.1.1.0, (within.1.1.1.1.1.0, (within.1.1.1.1.1.1, (c.requires.block_size, (c.requires.increasing, (c.requires.fits, enough)))))))))))
 
 pub take_last-requires-2 : goal.take_last-requires-2
 take_last-requires-2 g t c κs within =
-    let from = c.args.from.now.items in
-    let rest = c.pop.new.self.items in
-    let entry : g.row.A-Key.Denot × g.row.A-Val.Denot = (c.in-Some.key, c.in-Some.val) in
-    let right = c.in_ok-right.right.entries in
-    let whole : from ≡ rest ++ entry ∷ right = c.in_ok-right.ensures.entries ∙ ap (λ x. x ++ right) c.in-Some.ensures.items ∙ append_assoc rest (entry ∷ []) right in
-    let increasing : IsIncreasing g.A.Key.Ord.cmp rest = IsIncreasing-front g.A.Key.Ord.cmp rest (entry ∷ right) (subst (IsIncreasing g.A.Key.Ord.cmp) whole c.requires.increasing) in
-    let counted : length from ≡ length rest + (length right + 1) = omega (arith, ap length whole, length-append rest (entry ∷ right)) in
-    let shorter : length rest ≤ length from = omega (arith, counted) in
-    let enough : (c.args.count - 1) / 2 ≤ length rest = omega (arith, counted, c.in_ok-right.ensures.count, c.requires.inside) in
-    search rules
+    let taken = c.in_ok-right.ensures.entries in
+    let popped = c.in-Some.ensures.items in
+    let rises = rest_increasing g.A.Key.Ord.cmp _ _ _ _ _ taken popped c.requires.increasing in
+    let few = rest_under _ _ _ _ _ taken popped (2 ^ 60) c.requires.fits in
+    let fewer : (c.args.count - 1) / 2 < c.args.count = earlier_fewer _ _ c.if-count-SIZE.false in
+    let enough = rest_enough _ _ _ _ _ taken popped c.args.count c.in_ok-right.ensures.count c.requires.inside in
+    (search rules, (within.0, (within.1.0, (within.1.1.0, (within.1.1.1.0, (within.1.1.1.1.0, (within.1.1.1.1.1.0, (within.1.1.1.1.1.1, (c.requires.block_size, (rises, (few, enough)))))))))))
+
+pub node-requires-clause-block_size : goal.node-requires-clause-block_size
+node-requires-clause-block_size g t c = c.requires.block_size
 
 pub node-requires-clause-increasing : goal.node-requires-clause-increasing
 node-requires-clause-increasing g t c =
@@ -71,3 +79,15 @@ returns-clause-count g t c =
 
 pub returns-clause-cost : goal.returns-clause-cost
 returns-clause-cost g t c = omega (arith, c.in_ok-right.ensures.cost, c.in_ok-left.ensures.cost, c.node.ensures.cost, c.if-count-SIZE.false)
+
+pub returns-in_err-right-clause-entries : goal.returns-in_err-right-clause-entries
+returns-in_err-right-clause-entries g t c = refused c.from_residual.result _ _ c.from_residual.ensures.1
+
+pub returns-in_err-right-clause-count : goal.returns-in_err-right-clause-count
+returns-in_err-right-clause-count g t c = refused c.from_residual.result _ _ c.from_residual.ensures.1
+
+pub returns-in_err-left-clause-entries : goal.returns-in_err-left-clause-entries
+returns-in_err-left-clause-entries g t c = refused c.from_residual-in_err-left.result _ _ c.from_residual-in_err-left.ensures.1
+
+pub returns-in_err-left-clause-count : goal.returns-in_err-left-clause-count
+returns-in_err-left-clause-count g t c = refused c.from_residual-in_err-left.result _ _ c.from_residual-in_err-left.ensures.1
