@@ -1,8 +1,9 @@
 //! Long runs of puts of the tool map.
 
 use crate::programs::words_of;
-use fork_join::FreeGate;
+use fork_join::{FreeGate, Gate};
 use io_edge::{MemSink, MemSource};
+use meeting::Meeting;
 use pam_top::plain_map::SortedMap;
 use pam_top::{Status, pam};
 use script::line;
@@ -16,13 +17,14 @@ use std::thread::Threads;
 const PUTS: usize = 5000;
 
 /// The entries of two runs of puts. The keys of the first are all new, and of the second some are new, some old, and some come again.
+/// Those of the second lie all over those of the first, since halves fork only where each has its share.
 fn entries<R: Abort>(rt: &R, alloc: Global) -> Vec<(u64, u64)> {
     let mut entries = Vec::new(alloc);
     for i in 0..PUTS as u64 {
         entries.push((i.wrapping_mul(2), i)).expect(rt, "memory");
     }
     for i in 0..PUTS as u64 {
-        let key = i.wrapping_mul(i) % 15000;
+        let key = i.wrapping_mul(i) % 10_000;
         entries.push((key, i)).expect(rt, "memory");
     }
     entries
@@ -61,12 +63,17 @@ fn replies_to<R: Abort>(rt: &R, alloc: Global, entries: &[(u64, u64)]) -> Vec<u8
     text
 }
 
-/// What the program writes.
-fn written<R: Abort + Threads + Wait + Sync>(rt: &R, alloc: Global, input: Vec<u8>) -> Vec<u8> {
-    let words = words_of(rt, alloc, &["--workers", "2", "map"]);
+/// What the program writes on two workers, which share whatever has more than one part.
+fn written<R: Abort + Threads + Wait + Sync, G: Gate>(
+    rt: &R,
+    alloc: Global,
+    input: Vec<u8>,
+    gate: &G,
+) -> Vec<u8> {
+    let words = words_of(rt, alloc, &["--workers", "2", "--grain", "1", "map"]);
     let mut source = MemSource::new(input, 1000, Vec::new(alloc));
     let mut sink = MemSink::new(alloc, 100_000, 1000, Vec::new(alloc)).expect(rt, "memory");
-    let status = pam(rt, alloc, &words, &mut source, &mut sink, &FreeGate);
+    let status = pam(rt, alloc, &words, &mut source, &mut sink, gate);
     assert_eq!(rt; status, Status::Ok);
     Vec::from_slice(alloc, sink.written()).expect(rt, "memory")
 }
@@ -77,5 +84,27 @@ fn a_long_run_of_puts_replies_as_single_ones(rt: HostRuntime) {
     let entries = entries(&rt, alloc);
     let input = script_of(&rt, alloc, &entries);
     let wanted = replies_to(&rt, alloc, &entries);
-    assert_eq!(rt; written(&rt, alloc, input), wanted);
+    assert_eq!(rt; written(&rt, alloc, input, &FreeGate), wanted);
+}
+
+/// Whether halves meet in the run of a script of these entries.
+fn halves_meet<R: Abort + Threads + Wait + Sync>(
+    rt: &R,
+    alloc: Global,
+    entries: &[(u64, u64)],
+) -> bool {
+    let gate = Meeting::new();
+    let input = script_of(rt, alloc, entries);
+    written(rt, alloc, input, &gate);
+    gate.was_met()
+}
+
+// The first run is put into an empty register one by one, the second into the entries of the first at once.
+#[test]
+fn the_halves_of_a_long_run_of_puts_into_a_big_register_meet(rt: HostRuntime) {
+    let alloc = rt.alloc();
+    let mut entries = entries(&rt, alloc);
+    assert!(rt; halves_meet(&rt, alloc, &entries));
+    entries.truncate(PUTS);
+    assert!(rt; !halves_meet(&rt, alloc, &entries));
 }

@@ -1,4 +1,4 @@
-//! What the union of a map that is given up moves.
+//! What is moved of a map that is given up.
 ghost use Rattle.std.specs.Ordering.{nat_cmp};
 ghost use Rattle.map_model.specs.Balance.{IsBlockSize};
 ghost use Rattle.map_model.specs.Entries.{IsIncreasing};
@@ -92,6 +92,62 @@ fn shares_paths<R: Abort, const B: usize>(rt: &R, alloc: Global) -> bool
     let shared = ours.take();
     let path = copy.height() as u64 + 1;
     united.size() == ENTRIES + FEW && 0 < shared && shared <= FEW * (2 * B as u64 + path)
+}
+
+/// Pairs far from one another: every second one of a new key, and the others of keys that the map has.
+fn puts<'a, R: Abort>(rt: &R, alloc: Global, shares: &'a Shares) -> Vec<(u64, Tracked<'a>)> {
+    let mut pairs = Vec::new(alloc);
+    for place in 0..FEW {
+        let key = 512 * place + place % 2;
+        pairs
+            .push((key, Tracked::new(place, shares)))
+            .expect(rt, "memory");
+    }
+    pairs
+}
+
+/// The size of a map after puts in threads, and how often they share values of the map that is given up.
+fn put_moved<R: Threads + Abort + Sync, const B: usize>(rt: &R, alloc: Global) -> (u64, u64)
+    requires { IsBlockSize B }
+{
+    let ours = Shares::new();
+    let theirs = Shares::new();
+    let map = many::<R, B>(rt, alloc, &ours);
+    let pairs = puts(rt, alloc, &theirs);
+    ours.take();
+    let after = map
+        .multi_put_into(rt, alloc, &FreeGate, Cut::new(4, 1), &pairs)
+        .expect(rt, "memory");
+    (after.size(), ours.take())
+}
+
+/// The same on one thread.
+fn put_moved_alone<R: Abort, const B: usize>(rt: &R, alloc: Global) -> (u64, u64)
+    requires { IsBlockSize B }
+{
+    let ours = Shares::new();
+    let theirs = Shares::new();
+    let map = many::<R, B>(rt, alloc, &ours);
+    let pairs = puts(rt, alloc, &theirs);
+    ours.take();
+    let after = map.multi_put_into_alone(alloc, &pairs).expect(rt, "memory");
+    (after.size(), ours.take())
+}
+
+/// Asserts that puts share no value of a map with one owner.
+fn assert_puts_move<R: Threads + Abort + Sync, const B: usize>(rt: &R, alloc: Global)
+    requires { IsBlockSize B }
+{
+    let wanted = (ENTRIES + FEW / 2, 0);
+    assert_eq!(rt; put_moved::<R, B>(rt, alloc), wanted);
+    assert_eq!(rt; put_moved_alone::<R, B>(rt, alloc), wanted);
+}
+
+#[test]
+fn many_puts_into_a_map_with_one_owner_move_its_entries(rt: HostRuntime) {
+    assert_puts_move::<HostRuntime, 1>(&rt, rt.alloc());
+    assert_puts_move::<HostRuntime, 2>(&rt, rt.alloc());
+    assert_puts_move::<HostRuntime, 32>(&rt, rt.alloc());
 }
 
 #[test]
