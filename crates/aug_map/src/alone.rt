@@ -21,8 +21,7 @@ impl<A: Augment, L: Leaf<A::Key, A::Val>, S: BlockSize> MapOver<A, L, S> {
         requires block_size { IsBlockSize S.SIZE }
         ensures { IfOk result (λ map. map.entries ≡ build A.Key.cmp pairs.now) }
     {
-        let tree = batch_ops::build_alone(alloc, pairs)?;
-        Ok(MapOver { tree })
+        MapOver::from_tree(batch_ops::build_alone(alloc, pairs))
     }
 
     /// The entries of either map. At a key of both the value is what `how` makes of the value here and the value in `b`.
@@ -35,8 +34,7 @@ impl<A: Augment, L: Leaf<A::Key, A::Val>, S: BlockSize> MapOver<A, L, S> {
     ) -> Result<MapOver<A, L, S>, NoMemory>
         ensures { IfOk result (λ map. map.entries ≡ union A.Key.cmp (H.resolved how.now) self.now.entries b.now.entries) }
     {
-        let tree = bulk_ops::union_alone(alloc, &self.tree, &b.tree, how)?;
-        Ok(MapOver { tree })
+        MapOver::from_tree(bulk_ops::union_alone(alloc, &self.tree, &b.tree, how))
     }
 
     /// The entries whose keys both maps have, with what `how` makes of the value here and the value in `b`.
@@ -49,8 +47,7 @@ impl<A: Augment, L: Leaf<A::Key, A::Val>, S: BlockSize> MapOver<A, L, S> {
     ) -> Result<MapOver<A, L, S>, NoMemory>
         ensures { IfOk result (λ map. map.entries ≡ intersect A.Key.cmp (H.resolved how.now) self.now.entries b.now.entries) }
     {
-        let tree = bulk_ops::intersect_alone(alloc, &self.tree, &b.tree, how)?;
-        Ok(MapOver { tree })
+        MapOver::from_tree(bulk_ops::intersect_alone(alloc, &self.tree, &b.tree, how))
     }
 
     /// The entries whose keys `b` hasn't. O(m * log(n / m + 1)) for maps of m and n entries, m at most n.
@@ -61,8 +58,7 @@ impl<A: Augment, L: Leaf<A::Key, A::Val>, S: BlockSize> MapOver<A, L, S> {
     ) -> Result<MapOver<A, L, S>, NoMemory>
         ensures { IfOk result (λ map. map.entries ≡ difference A.Key.cmp self.now.entries b.now.entries) }
     {
-        let tree = bulk_ops::difference_alone(alloc, &self.tree, &b.tree)?;
-        Ok(MapOver { tree })
+        MapOver::from_tree(bulk_ops::difference_alone(alloc, &self.tree, &b.tree))
     }
 
     /// The map after all puts in order, so that a later pair of a key wins. O(k * log k + k * log(n / k + 1)) for k pairs and a map
@@ -74,8 +70,7 @@ impl<A: Augment, L: Leaf<A::Key, A::Val>, S: BlockSize> MapOver<A, L, S> {
     ) -> Result<MapOver<A, L, S>, NoMemory>
         ensures { IfOk result (λ map. map.entries ≡ after A.Key.cmp self.now.entries (puts pairs.now)) }
     {
-        let tree = batch_ops::multi_put_alone(alloc, &self.tree, pairs)?;
-        Ok(MapOver { tree })
+        MapOver::from_tree(batch_ops::multi_put_alone(alloc, &self.tree, pairs))
     }
 
     /// The map without these keys; keys that it hasn't change nothing. O(k * log n) for k keys and a map of n entries.
@@ -86,8 +81,7 @@ impl<A: Augment, L: Leaf<A::Key, A::Val>, S: BlockSize> MapOver<A, L, S> {
     ) -> Result<MapOver<A, L, S>, NoMemory>
         ensures { IfOk result (λ map. map.entries ≡ after A.Key.cmp self.now.entries (dels keys.now)) }
     {
-        let tree = batch_ops::multi_del_alone(alloc, &self.tree, keys)?;
-        Ok(MapOver { tree })
+        MapOver::from_tree(batch_ops::multi_del_alone(alloc, &self.tree, keys))
     }
 
     /// The map of the entries that hold. O(n) for a map of n entries.

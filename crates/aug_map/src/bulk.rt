@@ -33,8 +33,7 @@ impl<A: SyncAugment, L: Leaf<A::Key, A::Val> + Send + Sync, S: BlockSize + Send 
         requires block_size { IsBlockSize S.SIZE }
         ensures { IfOk result (λ map. map.entries ≡ build A.Key.cmp pairs.now) }
     {
-        let tree = batch_ops::build(rt, alloc, gate, cut, pairs)?;
-        Ok(MapOver { tree })
+        MapOver::from_tree(batch_ops::build(rt, alloc, gate, cut, pairs))
     }
 
     /// The entries of either map. At a key of both the value is what `how` makes of the value here and the value in `b`. For maps
@@ -50,8 +49,7 @@ impl<A: SyncAugment, L: Leaf<A::Key, A::Val> + Send + Sync, S: BlockSize + Send 
     ) -> Result<MapOver<A, L, S>, NoMemory>
         ensures { IfOk result (λ map. map.entries ≡ union A.Key.cmp (H.resolved how.now) self.now.entries b.now.entries) }
     {
-        let tree = bulk_ops::union(rt, alloc, gate, cut, &self.tree, &b.tree, how)?;
-        Ok(MapOver { tree })
+        MapOver::from_tree(bulk_ops::union(rt, alloc, gate, cut, &self.tree, &b.tree, how))
     }
 
     /// The entries whose keys both maps have, with what `how` makes of the value here and the value in `b`, in the time of `union`.
@@ -66,8 +64,7 @@ impl<A: SyncAugment, L: Leaf<A::Key, A::Val> + Send + Sync, S: BlockSize + Send 
     ) -> Result<MapOver<A, L, S>, NoMemory>
         ensures { IfOk result (λ map. map.entries ≡ intersect A.Key.cmp (H.resolved how.now) self.now.entries b.now.entries) }
     {
-        let tree = bulk_ops::intersect(rt, alloc, gate, cut, &self.tree, &b.tree, how)?;
-        Ok(MapOver { tree })
+        MapOver::from_tree(bulk_ops::intersect(rt, alloc, gate, cut, &self.tree, &b.tree, how))
     }
 
     /// The entries whose keys `b` hasn't, in the time of `union`.
@@ -81,8 +78,7 @@ impl<A: SyncAugment, L: Leaf<A::Key, A::Val> + Send + Sync, S: BlockSize + Send 
     ) -> Result<MapOver<A, L, S>, NoMemory>
         ensures { IfOk result (λ map. map.entries ≡ difference A.Key.cmp self.now.entries b.now.entries) }
     {
-        let tree = bulk_ops::difference(rt, alloc, gate, cut, &self.tree, &b.tree)?;
-        Ok(MapOver { tree })
+        MapOver::from_tree(bulk_ops::difference(rt, alloc, gate, cut, &self.tree, &b.tree))
     }
 
     /// The map after all puts in order, so that a later pair of a key wins. O(k * log k + k * log(n / k + 1)) work for k pairs
@@ -97,8 +93,7 @@ impl<A: SyncAugment, L: Leaf<A::Key, A::Val> + Send + Sync, S: BlockSize + Send 
     ) -> Result<MapOver<A, L, S>, NoMemory>
         ensures { IfOk result (λ map. map.entries ≡ after A.Key.cmp self.now.entries (puts pairs.now)) }
     {
-        let tree = batch_ops::multi_put(rt, alloc, gate, cut, &self.tree, pairs)?;
-        Ok(MapOver { tree })
+        MapOver::from_tree(batch_ops::multi_put(rt, alloc, gate, cut, &self.tree, pairs))
     }
 
     /// The map without these keys; keys that it hasn't change nothing. O(k * log n) work for k keys and a map of n entries.
@@ -112,8 +107,7 @@ impl<A: SyncAugment, L: Leaf<A::Key, A::Val> + Send + Sync, S: BlockSize + Send 
     ) -> Result<MapOver<A, L, S>, NoMemory>
         ensures { IfOk result (λ map. map.entries ≡ after A.Key.cmp self.now.entries (dels keys.now)) }
     {
-        let tree = batch_ops::multi_del(rt, alloc, gate, cut, &self.tree, keys)?;
-        Ok(MapOver { tree })
+        MapOver::from_tree(batch_ops::multi_del(rt, alloc, gate, cut, &self.tree, keys))
     }
 
     /// The map of the entries that hold, in time linear in the number of entries.

@@ -15,8 +15,7 @@ impl<A: Augment, L: Leaf<A::Key, A::Val>, S: BlockSize> MapOver<A, L, S> {
         requires block_size { IsBlockSize S.SIZE }
         ensures { IfOk result (λ map. map.entries ≡ (key, val) ∷ []) }
     {
-        let tree = tree_points::single(alloc, key, val)?;
-        Ok(MapOver { tree })
+        MapOver::from_tree(tree_points::single(alloc, key, val))
     }
 
     /// The value at a key, if it is there, in at most `height + L::FIND` steps. It takes no memory where the shares of keys and
@@ -45,8 +44,7 @@ impl<A: Augment, L: Leaf<A::Key, A::Val>, S: BlockSize> MapOver<A, L, S> {
         ensures entries { IfOk result (λ map. map.entries ≡ set A.Key.cmp self.now.entries key val) }
         ensures cost { steps.new ≤ steps.old + (64 * (self.now.height + 1) * (S.SIZE + 2) + L.FIND) }
     {
-        let tree = tree_points::put(alloc, &self.tree, key, val, steps)?;
-        Ok(MapOver { tree })
+        MapOver::from_tree(tree_points::put(alloc, &self.tree, key, val, steps))
     }
 
     /// The map without a key, which it need not have, in at most `64 * (height + 1) * (B + 2) + L::FIND` steps.
@@ -59,7 +57,6 @@ impl<A: Augment, L: Leaf<A::Key, A::Val>, S: BlockSize> MapOver<A, L, S> {
         ensures entries { IfOk result (λ map. map.entries ≡ drop_key A.Key.cmp self.now.entries key.now) }
         ensures cost { steps.new ≤ steps.old + (64 * (self.now.height + 1) * (S.SIZE + 2) + L.FIND) }
     {
-        let tree = tree_points::del(alloc, &self.tree, key, steps)?;
-        Ok(MapOver { tree })
+        MapOver::from_tree(tree_points::del(alloc, &self.tree, key, steps))
     }
 }

@@ -35,8 +35,7 @@ impl<
         ensures { IfOk result (λ map. map.entries ≡ union A.Key.cmp (H.resolved how.now) self.entries list.now) }
     {
         let tree = self.into_tree();
-        let tree = bulk_changes::union_into(rt, alloc, gate, cut, tree, list, how)?;
-        Ok(MapOver { tree })
+        MapOver::from_tree(bulk_changes::union_into(rt, alloc, gate, cut, tree, list, how))
     }
 
     /// The map after all puts in order, so that a later pair of a key wins. O(k * log k + k * log(n / k + 1)) work for k pairs and
@@ -52,8 +51,7 @@ impl<
         ensures { IfOk result (λ map. map.entries ≡ after A.Key.cmp self.entries (puts pairs.now)) }
     {
         let tree = self.into_tree();
-        let tree = batch_ops::multi_put_into(rt, alloc, gate, cut, tree, pairs)?;
-        Ok(MapOver { tree })
+        MapOver::from_tree(batch_ops::multi_put_into(rt, alloc, gate, cut, tree, pairs))
     }
 }
 
@@ -79,8 +77,7 @@ impl<A: Augment, L: IntoEntries<A::Key, A::Val>, S: BlockSize> MapOver<A, L, S> 
         ensures { IfOk result (λ map. map.entries ≡ union A.Key.cmp (H.resolved how.now) self.entries list.now) }
     {
         let tree = self.into_tree();
-        let tree = bulk_changes::union_into_alone(alloc, tree, list, how)?;
-        Ok(MapOver { tree })
+        MapOver::from_tree(bulk_changes::union_into_alone(alloc, tree, list, how))
     }
 
     /// `multi_put_into` on one thread, which asks of keys, values and folds nothing about threads.
@@ -93,7 +90,6 @@ impl<A: Augment, L: IntoEntries<A::Key, A::Val>, S: BlockSize> MapOver<A, L, S> 
         ensures { IfOk result (λ map. map.entries ≡ after A.Key.cmp self.entries (puts pairs.now)) }
     {
         let tree = self.into_tree();
-        let tree = batch_ops::multi_put_into_alone(alloc, tree, pairs)?;
-        Ok(MapOver { tree })
+        MapOver::from_tree(batch_ops::multi_put_into_alone(alloc, tree, pairs))
     }
 }

@@ -67,8 +67,7 @@ impl<A: Augment, L: Leaf<A::Key, A::Val>, S: BlockSize> MapOver<A, L, S> {
         ensures entries { IfOk result (λ map. map.entries ≡ left.now.entries ++ (key, val) ∷ right.now.entries) }
         ensures cost { weight left.now.entries ≤ 3 * weight right.now.entries + 3 → weight right.now.entries ≤ 3 * weight left.now.entries + 3 → steps.new ≤ steps.old + 7 * (4 * S.SIZE + 4) }
     {
-        let tree = join_core::join(alloc, &left.tree, key, val, &right.tree, steps)?;
-        Ok(MapOver { tree })
+        MapOver::from_tree(join_core::join(alloc, &left.tree, key, val, &right.tree, steps))
     }
 
     /// The entries below a key, the value at it, and the entries above it. Its time is linear in the height: where
@@ -103,7 +102,6 @@ impl<A: Augment, L: Leaf<A::Key, A::Val>, S: BlockSize> MapOver<A, L, S> {
         ensures entries { IfOk result (λ map. map.entries ≡ left.now.entries ++ right.now.entries) }
         ensures cost { IsBalanced (weight left.now.entries) (weight right.now.entries) → steps.new ≤ steps.old + (64 * (right.now.height + 1) * (S.SIZE + 2) + 7 * (4 * S.SIZE + 4)) }
     {
-        let tree = join_core::join2(alloc, &left.tree, &right.tree, steps)?;
-        Ok(MapOver { tree })
+        MapOver::from_tree(join_core::join2(alloc, &left.tree, &right.tree, steps))
     }
 }

@@ -52,6 +52,16 @@ impl<A: Augment, L: Leaf<A::Key, A::Val>, S: BlockSize> MapOver<A, L, S> {
         }
     }
 
+    /// The map of a tree that a call made, or the refusal of the call.
+    pub(crate) fn from_tree(
+        made: Result<TreeOver<A, L, S>, NoMemory>,
+    ) -> Result<MapOver<A, L, S>, NoMemory>
+        ensures { result ≡ made }
+    {
+        let tree = made?;
+        Ok(MapOver { tree })
+    }
+
     /// How many entries there are. O(1).
     pub fn size(&self) -> u64
         ensures value { result ≡ length self.now.entries }
@@ -82,7 +92,6 @@ impl<A: Augment, L: Leaf<A::Key, A::Val>, S: BlockSize> Share for MapOver<A, L, 
     ghost never_refuses = { ⊥ };
 
     fn share(&self, alloc: Global) -> Result<MapOver<A, L, S>, NoMemory> {
-        let tree = self.tree.share(alloc)?;
-        Ok(MapOver { tree })
+        MapOver::from_tree(self.tree.share(alloc))
     }
 }

@@ -66,8 +66,7 @@ impl<A: Augment, L: Leaf<A::Key, A::Val>, S: BlockSize> MapOver<A, L, S> {
     ) -> Result<MapOver<A, L, S>, NoMemory>
         ensures { IfOk result (λ map. map.entries ≡ aug_filter A.base_of (T.admits test.now) self.now.entries) }
     {
-        let tree = aug_query::aug_filter(alloc, &self.tree, test)?;
-        Ok(MapOver { tree })
+        MapOver::from_tree(aug_query::aug_filter(alloc, &self.tree, test))
     }
 
     /// The first entry whose base value passes; none exactly where no entry's does. It passes over each part whose fold fails the
@@ -155,31 +154,27 @@ impl<A: Augment, L: Leaf<A::Key, A::Val>, S: BlockSize> MapOver<A, L, S> {
     ) -> Result<MapOver<A, L, S>, NoMemory>
         ensures { IfOk result (λ map. map.entries ≡ slice A.Key.cmp self.now.entries lo.now hi.now) }
     {
-        let tree = aug_query::slice(alloc, &self.tree, lo, hi)?;
-        Ok(MapOver { tree })
+        MapOver::from_tree(aug_query::slice(alloc, &self.tree, lo, hi))
     }
 
     /// The map of the entries with keys less than `key`, in time linear in the height.
     pub fn below(&self, alloc: Global, key: &A::Key) -> Result<MapOver<A, L, S>, NoMemory>
         ensures { IfOk result (λ map. map.entries ≡ below A.Key.cmp self.now.entries key.now) }
     {
-        let tree = aug_query::below(alloc, &self.tree, key)?;
-        Ok(MapOver { tree })
+        MapOver::from_tree(aug_query::below(alloc, &self.tree, key))
     }
 
     /// The map of the entries with keys greater than `key`, in time linear in the height.
     pub fn above(&self, alloc: Global, key: &A::Key) -> Result<MapOver<A, L, S>, NoMemory>
         ensures { IfOk result (λ map. map.entries ≡ above A.Key.cmp self.now.entries key.now) }
     {
-        let tree = aug_query::above(alloc, &self.tree, key)?;
-        Ok(MapOver { tree })
+        MapOver::from_tree(aug_query::above(alloc, &self.tree, key))
     }
 
     /// The map of the entries with keys at least `key`, in time linear in the height.
     pub fn at_least(&self, alloc: Global, key: &A::Key) -> Result<MapOver<A, L, S>, NoMemory>
         ensures { IfOk result (λ map. map.entries ≡ right_of A.Key.cmp self.now.entries key.now) }
     {
-        let tree = aug_query::at_least(alloc, &self.tree, key)?;
-        Ok(MapOver { tree })
+        MapOver::from_tree(aug_query::at_least(alloc, &self.tree, key))
     }
 }
