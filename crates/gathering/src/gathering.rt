@@ -80,7 +80,7 @@ fn gathered<T, K: Key, W: Gives<T, K>>(
     ensures { IfOk result (λ keys. keys.items ≡ build K.cmp (flat_map (W.given how.now) items.now)) }
 {
     let mut keys = pushed::<T, K, W>(alloc, how, items)?;
-    put_in_order(alloc, &mut keys)?;
+    put_in_order(&mut keys);
     Ok(keys)
 }
 

@@ -1,27 +1,24 @@
 //! Keys without values, in order and each once.
-ghost use Rattle.std.specs.Prelude.{◌≡◌, OnOk, length};
+ghost use Rattle.std.specs.Prelude.{◌≡◌, length};
 ghost use Rattle.std.specs.List.{dedup};
-ghost use Rattle.std.specs.List.Sorted.{IsSortedByKey, IsStableByKey};
+ghost use Rattle.std.specs.List.Sorted.{IsPermutation, IsSortedByKey};
 ghost use Rattle.std.specs.Ordering.{is_eq};
 ghost use Rattle.map_model.specs.Operations.{build};
 
-use aug_monoid::{Key, NoMemory};
-use std::alloc::Global;
+use aug_monoid::Key;
 use std::cmp::Ordering;
 
-// Sorts keys stably.
-fn sort_keys<K: Key>(alloc: Global, keys: &mut [(K, ())]) -> Result<(), NoMemory>
+// Sorts keys, in place: without values it does not matter in which order equal keys come.
+fn sort_keys<K: Key>(keys: &mut [(K, ())])
     ensures len { length keys.new ≡ length keys.old }
-    ensures sorted { OnOk result (IsSortedByKey (λ e. e.0) K.cmp keys.new) }
-    ensures stable { OnOk result (IsStableByKey (λ e. e.0) K.cmp keys.old keys.new) }
+    ensures same { IsPermutation keys.old keys.new }
+    ensures sorted { IsSortedByKey (λ e. e.0) K.cmp keys.new }
 {
-    keys.sort_by(
-        alloc,
+    keys.sort_unstable_by(
         |x: &(K, ()), y: &(K, ())| -> Ordering
             ensures { result ≡ K.cmp x.now.0 y.now.0 }
         { x.0.cmp(&y.0) },
-    )?;
-    Ok(())
+    );
 }
 
 // Leaves of keys in a row that are equal the first.
@@ -37,11 +34,10 @@ fn keep_first_of_each<K: Key>(keys: &mut Vec<(K, ())>)
     );
 }
 
-/// Puts keys in order, each once. For n keys it makes about n * log n comparisons.
-pub(crate) fn put_in_order<K: Key>(alloc: Global, keys: &mut Vec<(K, ())>) -> Result<(), NoMemory>
-    ensures { OnOk result (keys.new.items ≡ build K.cmp keys.old.items) }
+/// Puts keys in order, each once, and takes no memory for it. For n keys it makes about n * log n comparisons.
+pub(crate) fn put_in_order<K: Key>(keys: &mut Vec<(K, ())>)
+    ensures { keys.new.items ≡ build K.cmp keys.old.items }
 {
-    sort_keys(alloc, keys.as_mut_slice())?;
+    sort_keys(keys.as_mut_slice());
     keep_first_of_each(keys);
-    Ok(())
 }

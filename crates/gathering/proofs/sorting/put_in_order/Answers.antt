@@ -1,6 +1,6 @@
-use Rattle.std.proofs.Common.{◌≡◌, ◌++◌, ◌∙◌, take, drop, length, arith, rules, subst}
+use Rattle.std.proofs.Common.{◌≡◌, ◌++◌, take, drop, length, arith, rules, subst}
 use Rattle.std.proofs.lemmas.Grind.{common_steps}
-use Rattle.std.specs.List.Sorted.{IsSortedByKey, IsStableByKey}
+use Rattle.std.specs.List.Sorted.{IsPermutation}
 use Rattle.gathering.proofs.Sets.{sorted_set}
 use Rattle.gathering.proofs.sorting.put_in_order.Goals as goal
 
@@ -11,5 +11,5 @@ returns g c =
     let whole : take keys.len (sorted ++ drop (length sorted) keys.items) ≡ sorted = grind (arith, common_steps) in
     let kept = c.keep_first_of_each.ensures in
     let is : c.as_mut_slice.result.now ≡ keys.items = search rules in
-    let stable : IsStableByKey (λ (x : g.row.K.Denot × Unit {0}). x.0) g.K.Ord.cmp keys.items sorted = subst (λ xs. IsStableByKey (λ (x : g.row.K.Denot × Unit {0}). x.0) g.K.Ord.cmp xs sorted) is c.in_ok-sort_keys.ensures.stable in
-    rw (kept, whole) (sorted_set g.met.K.Ord.total g.met.K.Key.exact keys.items sorted c.in_ok-sort_keys.ensures.sorted stable)
+    let same : IsPermutation keys.items sorted = subst (λ xs. IsPermutation xs sorted) is c.sort_keys.ensures.same in
+    rw (kept, whole) (sorted_set g.met.K.Ord.total g.met.K.Key.exact keys.items sorted c.sort_keys.ensures.sorted same)

@@ -8,10 +8,4 @@ pub returns-clause-sorted : goal.returns-clause-sorted
 returns-clause-sorted g c =
     let lt = λ (x y : g.row.K.Denot × Unit {0}). is_lt (g.K.Ord.cmp x.0 y.0) in
     let weak = ranks_by g.met.K.Ord.total (λ (x : g.row.K.Denot × Unit {0}). x.0) in
-    c.in_ok-sort_by.ensures.sorted lt weak (always_returns_same _ _ _ (λ a r f' k. search rules))
-
-pub returns-clause-stable : goal.returns-clause-stable
-returns-clause-stable g c =
-    let lt = λ (x y : g.row.K.Denot × Unit {0}). is_lt (g.K.Ord.cmp x.0 y.0) in
-    let weak = ranks_by g.met.K.Ord.total (λ (x : g.row.K.Denot × Unit {0}). x.0) in
-    c.in_ok-sort_by.ensures.stable lt weak (always_returns_same _ _ _ (λ a r f' k. search rules))
+    c.sort_unstable_by.ensures.sorted lt weak (always_returns_same _ _ _ (λ a r f' k. search rules))
