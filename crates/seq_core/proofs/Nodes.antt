@@ -1,11 +1,19 @@
 -- What a node over two sides has to keep.
-use Rattle.std.proofs.Common.{◌≡◌, ℕ, ◌+◌, ◌^◌, ◌<◌, max, ◌∷◌, ◌++◌, length, sym, ◌∙◌, arith}
+use Rattle.std.proofs.Common.{◌≡◌, ℕ, ◌+◌, ◌^◌, ◌<◌, max, List, ◌∷◌, ◌++◌, length, ap, sym, ◌∙◌, arith}
 use Rattle.map_model.specs.Balance.{FillsNode, IsBlockSize, IsBalanced, weight, HeightLaw}
 use Rattle.map_model.proofs.Cuts.{length-around}
 use Rattle.map_model.proofs.Heights.{node_is_long, node_law}
 use Rattle.seq_core.specs.Contents.{Contents}
 use Rattle.seq_core.specs.Sums.{sum_of}
 use Rattle.seq_core.specs.Shape.{IsNode}
+
+-- the sides of a node are shorter than the whole: the measure of recursions
+module _ {E : Type 0} (whole l : List E) (e : E) (r : List E) (is : whole ≡ l ++ e ∷ r) where
+  pub left_shorter : length l < length whole
+  left_shorter = omega (arith, ap length is, length-around l e r)
+
+  pub right_shorter : length r < length whole
+  right_shorter = omega (arith, ap length is, length-around l e r)
 
 module _ {E X : Type 0} (image : E → X) (unit : X) (combine : X → X → X) (block : ℕ) where
   pub is_node : (before : ℕ) (left : Contents E) (item : E) (right : Contents E) (sum : X) (size height : ℕ)

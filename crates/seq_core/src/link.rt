@@ -77,6 +77,16 @@ impl<F: Fold, S: BlockSize> SeqTree<F, S> {
         Ok(all)
     }
 
+    /// A block of these items, which it copies.
+    fn copied_block(alloc: Global, items: &[F::Item]) -> Result<SeqTree<F, S>, NoMemory>
+        requires block_size { IsBlockSize S.SIZE }
+        requires some { 0 < length items.now }
+        requires short { length items.now ≤ 2 * S.SIZE }
+        ensures { IfOk result (λ tree. tree.items ≡ items.now) }
+    {
+        Self::block(alloc, copy_items::<F>(alloc, items)?)
+    }
+
     /// A sequence of two blocks with an item between them.
     fn two_blocks(alloc: Global, items: &[F::Item]) -> Result<SeqTree<F, S>, NoMemory>
         requires block_size { IsBlockSize S.SIZE }
@@ -88,8 +98,8 @@ impl<F: Fold, S: BlockSize> SeqTree<F, S> {
         let Some((middle, back)) = rest.split_first() else {
             unreachable!()
         };
-        let left = Self::block(alloc, copy_items::<F>(alloc, front)?)?;
-        let right = Self::block(alloc, copy_items::<F>(alloc, back)?)?;
+        let left = Self::copied_block(alloc, front)?;
+        let right = Self::copied_block(alloc, back)?;
         Self::node(alloc, left, share_item::<F>(alloc, middle), right)
     }
 
