@@ -167,14 +167,28 @@ fn assert_alone<R: Abort, L: Leaf<u64, u64>>(rt: &R, alloc: Global) {
     assert_eq!(rt; count.expect(rt, "memory"), 2);
 }
 
+const APPENDED: &[(u64, u64)] = &[(5, 1), (3, 31), (1, 10), (5, 51)];
+
+/// Asserts that a map's entries are appended behind what a vector has.
+fn assert_appended<R: Abort, L: Leaf<u64, u64>>(rt: &R, alloc: Global) {
+    let map: Result<Tool<L>, NoMemory> = MapOver::build_alone(alloc, PAIRS);
+    let mut list = Vec::from_slice(alloc, OTHERS).expect(rt, "memory");
+    map.expect(rt, "memory")
+        .append_to(alloc, &mut list)
+        .expect(rt, "memory");
+    assert_eq!(rt; list.as_slice(), APPENDED);
+}
+
 #[test]
 fn plain_maps_at_once(rt: HostRuntime) {
     assert_alone::<HostRuntime, PlainLeaf<u64, u64>>(&rt, rt.alloc());
     assert_wholes::<HostRuntime, PlainLeaf<u64, u64>>(&rt, rt.alloc());
+    assert_appended::<HostRuntime, PlainLeaf<u64, u64>>(&rt, rt.alloc());
 }
 
 #[test]
 fn coded_maps_at_once(rt: HostRuntime) {
     assert_alone::<HostRuntime, DiffLeaf<u64>>(&rt, rt.alloc());
     assert_wholes::<HostRuntime, DiffLeaf<u64>>(&rt, rt.alloc());
+    assert_appended::<HostRuntime, DiffLeaf<u64>>(&rt, rt.alloc());
 }
