@@ -264,19 +264,25 @@ search_ends g s d [] found search_is h =
     equal_lookups nat_cmp_total nat_exact found (distances g s) search_is.found_rises (distances_rise g s) (λ v.
     search_is.found_at v ∙ settled g s d (λ v. none_left (level g s d v) d (sym (search_is.front_at v))) v ∙ sym (found-distances g s v))
 
+-- a front found is in order
+pub front_rises : (sets : Sets) (front found next lent : List (ℕ × ℕ)) (d : ℕ) → next ≡ next_front sets front found d → lent ≡ next → IsIncreasing nat_cmp lent
+front_rises sets front found new lent d n l =
+    subst (IsIncreasing nat_cmp) (sym (l ∙ n)) (IsIncreasing-difference nat_cmp (at_distance d (neighbours_of sets front)) found (near_rises sets front d))
+
 -- the step of the search, at the values that the program has
-pub goes_on : (sets : Sets) → IsIncreasing nat_cmp sets → (s d more : ℕ) (front found next all : List (ℕ × ℕ)) → IsSearch (edges_of sets) s d front found → more ≡ d + 1 → next ≡ next_front sets front found more → all ≡ union nat_cmp (λ x y. x) found next → IsSearch (edges_of sets) s more next all
-goes_on sets rises s d more front found next all so_far m n a =
+pub goes_on : (sets : Sets) → IsIncreasing nat_cmp sets → (s d more : ℕ) (front shown found next lent all : List (ℕ × ℕ)) → IsSearch (edges_of sets) s d front found → more ≡ d + 1 → shown ≡ front → next ≡ next_front sets shown found more → lent ≡ next → all ≡ union nat_cmp (λ x y. x) found lent → IsSearch (edges_of sets) s more next all
+goes_on sets rises s d more front shown found next lent all so_far m w n l a =
     let e : suc d ≡ more = omega (arith, m) in
     let step = search_goes_on sets rises s d front found so_far in
     let g = edges_of sets in
-    subst (λ x. IsSearch g s more next x) (sym a)
-    (subst (λ x. IsSearch g s more x (union nat_cmp (λ x y. x) found x)) (sym n)
+    let is : next ≡ next_front sets front found more = n ∙ ap (λ x. next_front sets x found more) w in
+    subst (λ x. IsSearch g s more next x) (sym (a ∙ ap (union nat_cmp (λ x y. x) found) l))
+    (subst (λ x. IsSearch g s more x (union nat_cmp (λ x y. x) found x)) (sym is)
     (subst (λ k. IsSearch g s k (next_front sets front found k) (union nat_cmp (λ x y. x) found (next_front sets front found k))) e step))
 
-pub starts_at : (g : List (ℕ × ℕ)) (s : ℕ) (front found : List (ℕ × ℕ)) → front ≡ (s, 0) ∷ [] → found ≡ front → IsSearch g s 0 front found
+pub starts_at : (g : List (ℕ × ℕ)) (s : ℕ) (front found : List (ℕ × ℕ)) → front ≡ (s, 0) ∷ [] → found ≡ (s, 0) ∷ [] → IsSearch g s 0 front found
 starts_at g s front found f a =
-    subst (λ x. IsSearch g s 0 front x) (sym a) (subst (λ x. IsSearch g s 0 x x) (sym f) (search_starts g s))
+    subst (λ x. IsSearch g s 0 front x) (sym a) (subst (λ x. IsSearch g s 0 x ((s, 0) ∷ [])) (sym f) (search_starts g s))
 
 -- a level further there is less to go
 pub less_to_go : (g : List (ℕ × ℕ)) (s d more size : ℕ) (front found : List (ℕ × ℕ)) → IsSearch g s d front found → more ≡ d + 1 → size ≡ length front → 0 < size → length g + 1 - more < length g + 1 - d

@@ -1,5 +1,8 @@
 //! The search by fronts: each has the vertices at one distance.
-ghost use Rattle.std.specs.Prelude.{◌≡◌, ◌+◌, IfOk};
+ghost use Rattle.std.specs.Prelude.{◌≡◌, ◌+◌, [], ◌∷◌, IfOk};
+ghost use Rattle.std.specs.Ordering.{nat_cmp};
+ghost use Rattle.map_model.specs.Entries.{IsIncreasing};
+ghost use Rattle.map_model.specs.SetOperations.{difference};
 ghost use Rattle.graph_snap.specs.Edges.{AreSets, edges_of, set_at};
 ghost use Rattle.graph_snap.specs.Merging.{at_distance, neighbours_of, next_front};
 ghost use Rattle.graph_snap.specs.Walks.{as_reached, reach};
@@ -7,12 +10,17 @@ ghost use Rattle.graph_snap.specs.Walks.{as_reached, reach};
 use crate::edge::Reached;
 use crate::vertices::{Vertices, set_at};
 use aug_map::CodedMap;
-use aug_monoid::{First, NoMemory, Nothing, Share};
+use aug_monoid::{First, NoMemory, Nothing};
+use entry_lists::difference_of;
 use fork_join::{Cut, Gate};
 use gathering::{Gives, set_of};
 use std::alloc::Global;
 use std::marker::Sync;
 use std::thread::Threads;
+
+/// The neighbours of a front are compared with what was found as a map, and not as a list, where they are fewer than one for so many
+/// found.
+const FOUND_FOR_EACH: u64 = 16;
 
 /// Vertices with their distances.
 pub(crate) type Distances = CodedMap<Nothing<u64, u64>>;
@@ -33,8 +41,7 @@ impl<'a> Gives<(u64, u64), u64> for Near<'a> {
         into: &mut Vec<(u64, ())>,
     ) -> Result<(), NoMemory> {
         let set = set_at(alloc, self.vertices, item.0)?;
-        let mut elements = set.map().to_vec(alloc)?;
-        into.append(&mut elements)?;
+        set.map().append_to(alloc, into)?;
         Ok(())
     }
 }
@@ -67,6 +74,61 @@ fn near_pairs<R: Threads + Sync, G: Gate>(
     pairs_at(alloc, &near, distance)
 }
 
+/// Whether a list is so much shorter than what was found that a map of it costs less than a walk over all that was found.
+pub(crate) fn is_narrow(near: &[(u64, u64)], found: &Distances) -> bool {
+    (near.len() as u64) < found.size() / FOUND_FOR_EACH
+}
+
+/// The vertices of a list in order that were not found before. The time goes by how many were found.
+pub(crate) fn not_in_list(
+    alloc: Global,
+    near: &[(u64, u64)],
+    found: &Distances,
+) -> Result<Vec<(u64, u64)>, NoMemory>
+    requires { IsIncreasing nat_cmp near.now }
+    ensures { IfOk result (λ left. left.items ≡ difference nat_cmp near.now found.now.entries) }
+{
+    let _size = found.size(); // for the proof alone: what was found is in order
+    let known = found.to_vec(alloc)?;
+    difference_of(alloc, near, &known)
+}
+
+// The vertices of a list in order that were not found before. The time goes by how long the list is.
+fn not_in_map<R: Threads + Sync, G: Gate>(
+    rt: &R,
+    alloc: Global,
+    gate: &G,
+    cut: Cut,
+    near: &[(u64, u64)],
+    found: &Distances,
+) -> Result<Vec<(u64, u64)>, NoMemory>
+    requires { IsIncreasing nat_cmp near.now }
+    ensures { IfOk result (λ left. left.items ≡ difference nat_cmp near.now found.now.entries) }
+{
+    let listed: Distances = CodedMap::build(rt, alloc, gate, cut, near)?;
+    let left = listed.difference(rt, alloc, gate, cut, found)?;
+    left.to_vec(alloc)
+}
+
+// The vertices of a list in order that were not found before.
+fn not_found<R: Threads + Sync, G: Gate>(
+    rt: &R,
+    alloc: Global,
+    gate: &G,
+    cut: Cut,
+    near: &[(u64, u64)],
+    found: &Distances,
+) -> Result<Vec<(u64, u64)>, NoMemory>
+    requires increasing { IsIncreasing nat_cmp near.now }
+    ensures { IfOk result (λ left. left.items ≡ difference nat_cmp near.now found.now.entries) }
+{
+    if is_narrow(near, found) {
+        not_in_map(rt, alloc, gate, cut, near, found)
+    } else {
+        not_in_list(alloc, near, found)
+    }
+}
+
 // The vertices that an edge leads to from a front and that were not found before.
 fn next_front<R: Threads + Sync, G: Gate>(
     rt: &R,
@@ -74,16 +136,23 @@ fn next_front<R: Threads + Sync, G: Gate>(
     gate: &G,
     cut: Cut,
     vertices: &Vertices,
-    front: &Distances,
+    front: &[(u64, u64)],
     found: &Distances,
     distance: u64,
-) -> Result<Distances, NoMemory>
-    ensures { IfOk result (λ map. map.entries ≡ next_front vertices.now.entries front.now.entries found.now.entries distance) }
+) -> Result<Vec<(u64, u64)>, NoMemory>
+    ensures { IfOk result (λ next. next.items ≡ next_front vertices.now.entries front.now found.now.entries distance) }
 {
-    let entries = front.to_vec(alloc)?;
-    let pairs = near_pairs(rt, alloc, gate, cut, vertices, &entries, distance)?;
-    let near: Distances = CodedMap::build(rt, alloc, gate, cut, &pairs)?;
-    near.difference(rt, alloc, gate, cut, found)
+    let near = near_pairs(rt, alloc, gate, cut, vertices, front, distance)?;
+    not_found(rt, alloc, gate, cut, &near, found)
+}
+
+/// The front at distance 0.
+pub(crate) fn first_front(alloc: Global, from: u64) -> Result<Vec<(u64, u64)>, NoMemory>
+    ensures { IfOk result (λ front. front.items ≡ (from, 0) ∷ []) }
+{
+    let mut front = Vec::new(alloc);
+    front.push((from, 0))?;
+    Ok(front)
 }
 
 /// Distances as a list.
@@ -123,13 +192,13 @@ pub(crate) fn search<R: Threads + Sync, G: Gate>(
     requires { AreSets vertices.now.entries }
     ensures { IfOk result (λ found. found.items ≡ reach (edges_of vertices.now.entries) from) }
 {
-    let mut front = Distances::single(alloc, from, 0)?;
-    let mut found = front.share(alloc)?;
+    let mut front = first_front(alloc, from)?;
+    let mut found = Distances::single(alloc, from, 0)?;
     let mut distance: u64 = 0;
-    'levels: while front.size() > 0 {
+    'levels: while front.len() > 0 {
         distance = further(distance)?;
         front = next_front(rt, alloc, gate, cut, vertices, &front, &found, distance)?;
-        found = found.union(rt, alloc, gate, cut, &front, &First)?;
+        found = found.union_into(rt, alloc, gate, cut, &front, &First)?;
     }
     listed(alloc, &found)
 }

@@ -1,15 +1,20 @@
 //! The search by fronts on one thread.
 ghost use Rattle.std.specs.Prelude.{◌≡◌, IfOk};
+ghost use Rattle.std.specs.Ordering.{nat_cmp};
+ghost use Rattle.map_model.specs.Entries.{IsIncreasing};
+ghost use Rattle.map_model.specs.SetOperations.{difference};
 ghost use Rattle.std.specs.List.{flat_map};
 ghost use Rattle.graph_snap.specs.Edges.{AreSets, edges_of, set_at};
 ghost use Rattle.graph_snap.specs.Merging.{at_distance, neighbours_of, next_front};
 ghost use Rattle.graph_snap.specs.Walks.{reach};
 
 use crate::edge::Reached;
-use crate::search::{Distances, Near, further, listed, pairs_at};
+use crate::search::{
+    Distances, Near, first_front, further, is_narrow, listed, not_in_list, pairs_at,
+};
 use crate::vertices::Vertices;
 use aug_map::CodedMap;
-use aug_monoid::{First, NoMemory, Nothing, Share};
+use aug_monoid::{First, NoMemory, Nothing};
 use gathering::Gives;
 use std::alloc::Global;
 
@@ -43,20 +48,48 @@ fn near_pairs_alone(
     pairs_at(alloc, &elements, distance)
 }
 
+// The vertices of a list in order that were not found before. The time goes by how long the list is.
+fn not_in_map_alone(
+    alloc: Global,
+    near: &[(u64, u64)],
+    found: &Distances,
+) -> Result<Vec<(u64, u64)>, NoMemory>
+    requires { IsIncreasing nat_cmp near.now }
+    ensures { IfOk result (λ left. left.items ≡ difference nat_cmp near.now found.now.entries) }
+{
+    let listed: Distances = CodedMap::build_alone(alloc, near)?;
+    let left = listed.difference_alone(alloc, found)?;
+    left.to_vec(alloc)
+}
+
+// The vertices of a list in order that were not found before.
+fn not_found_alone(
+    alloc: Global,
+    near: &[(u64, u64)],
+    found: &Distances,
+) -> Result<Vec<(u64, u64)>, NoMemory>
+    requires { IsIncreasing nat_cmp near.now }
+    ensures { IfOk result (λ left. left.items ≡ difference nat_cmp near.now found.now.entries) }
+{
+    if is_narrow(near, found) {
+        not_in_map_alone(alloc, near, found)
+    } else {
+        not_in_list(alloc, near, found)
+    }
+}
+
 // The vertices that an edge leads to from a front and that were not found before.
 fn next_front_alone(
     alloc: Global,
     vertices: &Vertices,
-    front: &Distances,
+    front: &[(u64, u64)],
     found: &Distances,
     distance: u64,
-) -> Result<Distances, NoMemory>
-    ensures { IfOk result (λ map. map.entries ≡ next_front vertices.now.entries front.now.entries found.now.entries distance) }
+) -> Result<Vec<(u64, u64)>, NoMemory>
+    ensures { IfOk result (λ next. next.items ≡ next_front vertices.now.entries front.now found.now.entries distance) }
 {
-    let entries = front.to_vec(alloc)?;
-    let pairs = near_pairs_alone(alloc, vertices, &entries, distance)?;
-    let near: Distances = CodedMap::build_alone(alloc, &pairs)?;
-    near.difference_alone(alloc, found)
+    let near = near_pairs_alone(alloc, vertices, front, distance)?;
+    not_found_alone(alloc, &near, found)
 }
 
 /// What walks from a vertex reach, with the least numbers of edges, on one thread.
@@ -68,13 +101,13 @@ pub(crate) fn search_alone(
     requires { AreSets vertices.now.entries }
     ensures { IfOk result (λ found. found.items ≡ reach (edges_of vertices.now.entries) from) }
 {
-    let mut front = Distances::single(alloc, from, 0)?;
-    let mut found = front.share(alloc)?;
+    let mut front = first_front(alloc, from)?;
+    let mut found = Distances::single(alloc, from, 0)?;
     let mut distance: u64 = 0;
-    'levels: while front.size() > 0 {
+    'levels: while front.len() > 0 {
         distance = further(distance)?;
         front = next_front_alone(alloc, vertices, &front, &found, distance)?;
-        found = found.union_alone(alloc, &front, &First)?;
+        found = found.union_into_alone(alloc, &front, &First)?;
     }
     listed(alloc, &found)
 }

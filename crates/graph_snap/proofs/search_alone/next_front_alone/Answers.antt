@@ -1,6 +1,9 @@
 use Rattle.std.proofs.lemmas.Result.{IfOk-weaker}
-use Rattle.graph_snap.proofs.Ordered.{next_is}
+use Rattle.graph_snap.proofs.Ordered.{lent_rises, next_is}
 use Rattle.graph_snap.proofs.search_alone.next_front_alone.Goals as goal
 
+pub not_found_alone-requires : goal.not_found_alone-requires
+not_found_alone-requires c = lent_rises c.args.vertices.now.entries c.args.front.now c.args.distance c.in_ok-near.near.items c.deref.result.now c.in_ok-near.ensures c.deref.ensures.value
+
 pub returns : goal.returns
-returns c = IfOk-weaker c.difference_alone.result _ _ (λ next h. next_is c.args.vertices.now.entries c.args.front.now.entries c.args.found.now.entries c.args.distance c.in_ok-entries.entries.items c.deref.result.now c.in_ok-pairs.pairs.items c.deref-2.result.now c.in_ok-near.near.entries next.entries c.in_ok-entries.ensures c.deref.ensures.value c.in_ok-pairs.ensures c.deref-2.ensures.value c.in_ok-near.ensures h) c.difference_alone.ensures
+returns c = IfOk-weaker c.not_found_alone.result _ _ (λ next h. next_is c.args.vertices.now.entries c.args.front.now c.args.found.now.entries c.args.distance c.in_ok-near.near.items c.deref.result.now next.items c.in_ok-near.ensures c.deref.ensures.value h) c.not_found_alone.ensures

@@ -4,7 +4,7 @@ use Rattle.graph_snap.proofs.Fronts.{IsSearch}
 use Rattle.graph_snap.proofs.search_alone.search_alone.Given as goal
 
 abbrev pub invariant-levels : goal.invariant-levels
-invariant-levels l = IsSearch (edges_of l.vertices.entries) l.from l.distance l.front.entries l.found.entries
+invariant-levels l = IsSearch (edges_of l.vertices.entries) l.from l.distance l.front.items l.found.entries
 
 abbrev pub decreases-levels : goal.decreases-levels
 decreases-levels l = length (edges_of l.vertices.entries) + 1 - l.distance

@@ -1,8 +1,7 @@
-use Rattle.std.proofs.Common.{◌∙◌, ap, subst, sym}
+use Rattle.std.proofs.Common.{◌∙◌, subst, sym}
 use Rattle.std.specs.List.{flat_map}
 use Rattle.std.proofs.lemmas.Result.{IfOk-weaker}
 use Rattle.map_model.specs.Entries.{IsIncreasing}
-use Rattle.map_model.specs.SetOperations.{union}
 use Rattle.map_model.proofs.Operations.{IsIncreasing-build}
 use Rattle.gathering.proofs.Sets.{halves_united}
 use Rattle.gathering.proofs.gathering.GatheringDivideRefSliceUnitVecTuple2Unit.close.Goals as goal
