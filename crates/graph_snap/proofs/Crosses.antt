@@ -1,11 +1,21 @@
--- Maps of sets cross threads, by the laws of their parts.
-use denote.Param.Send.{IsSend, IsSync, sendable}
+-- Maps of sets cross threads, by the laws of their parts. An answer writes a fact anew as a record, since what a call asks is of the same
+-- type in another writing.
+use denote.Param.{param}
+use denote.Param.Send.{IsSend, IsSync, param_send, sendable}
+use denote.RattleType.{RattleType}
+use denote.Struct.Field.{u64-field}
 use Rattle.std.proofs.Crossing.{crosses as std_crosses}
+use Rattle.std.specs.contracts.prelude.U64Ord.TheImpl as ordered
+use Rattle.std.specs.contracts.prelude.U64PartialEq.TheImpl as equal
+use Rattle.std.specs.contracts.prelude.U64PartialOrd.TheImpl as compared
+use Rattle.aug_monoid.specs.contracts.share.U64Share.TheImpl as shared
 use Rattle.tree_base.proofs.tree.TreeOver.TheLaws.TheKnot.{crosses as tree_crosses}
 use Rattle.tree_base.proofs.tree.Block.TheSendSync as Block
-use Rattle.leaf_blocks.proofs.plain_leaf.PlainLeaf.TheSendSync as PlainLeaf
+use Rattle.leaf_blocks.proofs.plain_leaf.PlainLeaf.TheSendSync as PlainLeafSent
+use Rattle.leaf_blocks.specs.contracts.plain_leaf.PlainLeaf as PlainLeaf
 use Rattle.diff_leaf.proofs.leaf.DiffLeaf.TheSendSync as DiffLeaf
 use Rattle.graph_snap.specs.contracts.neighbours.Neighbours as Neighbours
+use Rattle.graph_snap.specs.contracts.neighbours.NeighboursShare.TheImpl as set_shared
 
 pub set_send : IsSend Neighbours.the_row
 set_send = search (sendable, std_crosses, tree_crosses, Block.the_send, Block.the_sync, DiffLeaf.the_send, DiffLeaf.the_sync) depth 20
@@ -13,4 +23,21 @@ set_send = search (sendable, std_crosses, tree_crosses, Block.the_send, Block.th
 pub set_sync : IsSync Neighbours.the_row
 set_sync = search (sendable, std_crosses, tree_crosses, Block.the_send, Block.the_sync, DiffLeaf.the_send, DiffLeaf.the_sync) depth 20
 
-pub ruleset crosses = (set_send, set_sync, sendable, std_crosses, tree_crosses, Block.the_send, Block.the_sync, PlainLeaf.the_send, PlainLeaf.the_sync)
+-- a block of vertices with their sets
+abbrev pub block : RattleType
+block = PlainLeaf.the_row u64-field.row Neighbours.the_row shared.ghosts ordered.ghosts equal.ghosts compared.ghosts set_shared.ghosts
+
+pub block_send : IsSend block
+block_send = PlainLeafSent.the_send u64-field.row Neighbours.the_row shared.ghosts ordered.ghosts equal.ghosts compared.ghosts set_shared.ghosts (search sendable) set_send
+
+pub block_sync : IsSync block
+block_sync = PlainLeafSent.the_sync u64-field.row Neighbours.the_row shared.ghosts ordered.ghosts equal.ghosts compared.ghosts set_shared.ghosts (search sendable) set_sync
+
+-- what a call of a map asks of its blocks, its second parameter, and of its values
+pub block_sent : IsSend (param 1 block)
+block_sent = param_send 1 block block_send
+
+pub set_sent : IsSend (param 4 Neighbours.the_row)
+set_sent = param_send 4 Neighbours.the_row set_send
+
+pub ruleset crosses = (set_send, set_sync, sendable, std_crosses, tree_crosses, Block.the_send, Block.the_sync, PlainLeafSent.the_send, PlainLeafSent.the_sync)

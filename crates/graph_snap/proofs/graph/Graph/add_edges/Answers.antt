@@ -1,6 +1,7 @@
 use Rattle.std.proofs.Common.{subst, sym}
 use Rattle.graph_snap.specs.Edges.{AreSets, edges_of, pairs_of}
 use Rattle.graph_snap.proofs.Batched.{added, built_sets}
+use Rattle.graph_snap.proofs.Crosses.{block_sent, block_sync, set_sent, set_sync}
 use Rattle.graph_snap.proofs.graph.Graph.add_edges.Goals as goal
 
 pub with_sets-requires-clause-batch : goal.with_sets-requires-clause-batch
@@ -14,3 +15,15 @@ returns g c =
     let changed = c.in_ok-changed.changed.items in
     let made = built_sets changed c.deref.result.now c.in_ok-batch.batch.entries c.in_ok-changed.ensures.sets c.deref.ensures.value c.in_ok-batch.ensures in
     added c.self.inside.vertices.entries changed c.in_ok-batch.batch.entries c.args.self.now (pairs_of c.args.list.now) (edges_of c.in_ok-vertices.vertices.entries) c.self.view_is c.self.invariant.0 made c.in_ok-changed.ensures.edges c.in_ok-vertices.ensures.edges
+
+pub build-requires-send-L : goal.build-requires-send-L
+build-requires-send-L g c κs within = record { owned = block_sent.owned; leaving = block_sent.leaving }
+
+pub build-requires-sync-L : goal.build-requires-sync-L
+build-requires-sync-L g c κs within = record { shared = block_sync.shared }
+
+pub build-requires-send-A-Val : goal.build-requires-send-A-Val
+build-requires-send-A-Val g c κs within = record { owned = set_sent.owned; leaving = set_sent.leaving }
+
+pub build-requires-sync-A-Val : goal.build-requires-sync-A-Val
+build-requires-sync-A-Val g c κs within = record { shared = set_sync.shared }
