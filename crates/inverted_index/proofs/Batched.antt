@@ -1,5 +1,5 @@
 -- A batch of documents, whose postings are united with an index at once, is added as its documents one after another.
-use Rattle.std.proofs.Common.{◌≡◌, ℕ, Bool, true, false, cond, not, List, [], ◌∷◌, ◌++◌, Option, Some, None, length, map, refl, sym, ap, ap₂, ◌∙◌, subst}
+use Rattle.std.proofs.Common.{◌≡◌, ℕ, Bool, true, false, cond, not, List, [], ◌∷◌, Option, Some, None, length, map, refl, sym, ap, ap₂, ◌∙◌, subst}
 use Rattle.std.specs.Prelude.{if◌then◌else◌}
 use Rattle.std.specs.List.{AllByRecursion}
 use Rattle.std.specs.Option.{is_some, option_map, option_or, unwrap_or}
@@ -16,7 +16,7 @@ use Rattle.inverted_index.specs.Added.{outcome, outcomes_of, with_doc, with_docs
 use Rattle.inverted_index.specs.Batches.{IsGathered, all_knowing, first_weights, knowing, mark_of, marked, outcome_of, weighed}
 use Rattle.inverted_index.specs.Documents.{AreFit, IsIndex, documents_of}
 use Rattle.inverted_index.specs.Merging.{Lists, merged, postings_at}
-use Rattle.inverted_index.specs.Queries.{Document, has, having, if_filled, inverted, is_known}
+use Rattle.inverted_index.specs.Queries.{Document, having, if_filled, is_known}
 use Rattle.inverted_index.specs.Terms.{bytes_cmp, terms_of, weights_of}
 use Rattle.inverted_index.specs.declared.doc.Doc.{Doc}
 use Rattle.inverted_index.specs.declared.doc.Outcome.{Outcome}

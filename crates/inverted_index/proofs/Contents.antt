@@ -1,13 +1,11 @@
 -- What holds of the documents of an index.
-use Rattle.std.proofs.Common.{◌≡◌, ℕ, List, [], ◌∷◌, Some, length, refl, sym, ap, ◌∙◌, suc, subst}
+use Rattle.std.proofs.Common.{◌≡◌, ℕ, List, [], ◌∷◌, length, refl, sym, ap, ◌∙◌, suc, subst}
 use Rattle.std.specs.List.{AllByRecursion}
-use Rattle.std.specs.declared.cmp.Ordering.TheVariants.{Less}
 use Rattle.std.specs.Ordering.{nat_cmp}
-use Rattle.map_model.specs.Entries.{AllAbove, IsIncreasing, lookup}
-use Rattle.inverted_index.specs.Documents.{AreFit, IsIndex, IsLawful, documents_of, terms_in}
-use Rattle.inverted_index.specs.Merging.{Lists, postings_at}
+use Rattle.map_model.specs.Entries.{AllAbove, IsIncreasing}
+use Rattle.inverted_index.specs.Documents.{IsIndex, IsLawful, documents_of, terms_in}
+use Rattle.inverted_index.specs.Merging.{Lists}
 use Rattle.inverted_index.specs.Queries.{Document}
-use Rattle.inverted_index.specs.Terms.{bytes_cmp}
 use Rattle.inverted_index.proofs.Documents.{IsIncreasing-terms_in, lookup-terms_in}
 use Rattle.inverted_index.proofs.Gathering.{rises_at}
 

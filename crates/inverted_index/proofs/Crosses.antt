@@ -1,11 +1,20 @@
--- Indexes cross threads, by the laws of their parts.
-use denote.Param.Send.{IsSend, IsSync, sendable}
+-- Indexes cross threads, by the laws of their parts. An answer writes a fact anew as a record, since what a call asks is of the same
+-- type in another writing.
+use denote.Param.{param}
+use denote.Param.Send.{IsSend, IsSync, param_send, sendable}
+use denote.RattleType.{RattleType}
 use Rattle.std.proofs.Crossing.{crosses as std_crosses}
-use Rattle.tree_base.proofs.tree.TreeOver.TheLaws.TheKnot.{crosses as tree_crosses}
+use Rattle.tree_base.proofs.tree.TreeOver.TheLaws.TheKnot.{both_send-TreeOver as tree_send, both_sync-TreeOver as tree_sync}
 use Rattle.tree_base.proofs.tree.Block.TheSendSync as Block
-use Rattle.leaf_blocks.proofs.plain_leaf.PlainLeaf.TheSendSync as PlainLeaf
+use Rattle.leaf_blocks.proofs.plain_leaf.PlainLeaf.TheSendSync as PlainLeafSent
+use Rattle.leaf_blocks.specs.contracts.plain_leaf.PlainLeaf as PlainLeaf
 use Rattle.inverted_index.specs.contracts.postings.Postings as Postings
+use Rattle.inverted_index.specs.contracts.postings.PostingsShare.TheImpl as postings_shared
 use Rattle.inverted_index.specs.contracts.term.Term as Term
+use Rattle.inverted_index.specs.contracts.term.TermOrd.TheImpl as ordered
+use Rattle.inverted_index.specs.contracts.term.TermPartialEq.TheImpl as equal
+use Rattle.inverted_index.specs.contracts.term.TermPartialOrd.TheImpl as compared
+use Rattle.inverted_index.specs.contracts.term.TermShare.TheImpl as term_shared
 
 pub term_send : IsSend Term.the_row
 term_send = search (sendable, std_crosses) depth 20
@@ -14,9 +23,26 @@ pub term_sync : IsSync Term.the_row
 term_sync = search (sendable, std_crosses) depth 20
 
 pub postings_send : IsSend Postings.the_row
-postings_send = search (sendable, std_crosses, tree_crosses, Block.the_send, Block.the_sync, PlainLeaf.the_send, PlainLeaf.the_sync) depth 20
+postings_send = search (tree_send, tree_sync, PlainLeafSent.the_send, PlainLeafSent.the_sync, Block.the_send, Block.the_sync, sendable, std_crosses) depth 20
 
 pub postings_sync : IsSync Postings.the_row
-postings_sync = search (sendable, std_crosses, tree_crosses, Block.the_send, Block.the_sync, PlainLeaf.the_send, PlainLeaf.the_sync) depth 20
+postings_sync = search (tree_send, tree_sync, PlainLeafSent.the_send, PlainLeafSent.the_sync, Block.the_send, Block.the_sync, std_crosses, sendable) depth 20
 
-pub ruleset crosses = (term_send, term_sync, postings_send, postings_sync, sendable, std_crosses, tree_crosses, Block.the_send, Block.the_sync, PlainLeaf.the_send, PlainLeaf.the_sync)
+-- a block of terms with their postings
+abbrev pub block : RattleType
+block = PlainLeaf.the_row Term.the_row Postings.the_row term_shared.ghosts ordered.ghosts equal.ghosts compared.ghosts postings_shared.ghosts
+
+pub block_send : IsSend block
+block_send = PlainLeafSent.the_send Term.the_row Postings.the_row term_shared.ghosts ordered.ghosts equal.ghosts compared.ghosts postings_shared.ghosts term_send postings_send
+
+pub block_sync : IsSync block
+block_sync = PlainLeafSent.the_sync Term.the_row Postings.the_row term_shared.ghosts ordered.ghosts equal.ghosts compared.ghosts postings_shared.ghosts term_sync postings_sync
+
+-- what a call of a map asks of its blocks, its second parameter, and of its values
+pub block_sent : IsSend (param 1 block)
+block_sent = param_send 1 block block_send
+
+pub postings_sent : IsSend (param 4 Postings.the_row)
+postings_sent = param_send 4 Postings.the_row postings_send
+
+pub ruleset crosses = (block_send, block_sync, term_send, term_sync, postings_send, postings_sync, sendable, std_crosses, tree_send, tree_sync, Block.the_send, Block.the_sync, PlainLeafSent.the_send, PlainLeafSent.the_sync)

@@ -9,7 +9,7 @@ use Rattle.std.proofs.lemmas.List.Sums.{sum_by-append, sum_by-cons, count_by-le-
 use Rattle.std.proofs.lemmas.Map.Lookups.{exact_bytes}
 use Rattle.std.proofs.lemmas.Option.{same_Some}
 use Rattle.map_model.specs.Entries.{IsIncreasing, lookup}
-use Rattle.map_model.specs.Operations.{build, last_at}
+use Rattle.map_model.specs.Operations.{last_at}
 use Rattle.map_model.specs.SetOperations.{union}
 use Rattle.map_model.proofs.Lookups.{option_or-none}
 use Rattle.map_model.proofs.Operations.{IsIncreasing-build, build-is, last_at-cons, lookup-after_puts}

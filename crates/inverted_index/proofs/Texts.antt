@@ -1,6 +1,6 @@
 -- Bytes of terms, and the terms of a text's parts.
 use Rattle.std.specs.Borrow.{Bor}
-use Rattle.std.proofs.Common.{◌≡◌, ◌==◌, ◌&&◌, ◌<◌, ℕ, Bool, true, false, cond, List, [], ◌∷◌, get_or, length, map, not, refl, sym, ap₂, ap, ◌∙◌, subst, arith}
+use Rattle.std.proofs.Common.{◌≡◌, ◌==◌, ◌&&◌, ℕ, Bool, true, false, cond, List, [], ◌∷◌, length, map, not, refl, sym, ap₂, ◌∙◌, subst, arith}
 use Rattle.std.specs.List.{AllByRecursion, filter, list_all, onto_first, slice_split}
 use Rattle.std.specs.Char.{is_ascii_alphanumeric, to_ascii_lowercase}
 use Rattle.std.proofs.lemmas.Bool.{eqb-true}

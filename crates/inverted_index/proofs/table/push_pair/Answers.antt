@@ -1,4 +1,4 @@
-use Rattle.std.proofs.Common.{◌≡◌, ◌++◌, ◌∷◌, [], Some, None, cond, sym, ap, ◌∙◌, rules, arith}
+use Rattle.std.proofs.Common.{◌≡◌, ◌++◌, ◌∷◌, [], Some, None, cond, ap, ◌∙◌, rules, arith}
 use Rattle.std.proofs.lemmas.Grind.{common_steps}
 use Rattle.std.specs.BTreeMap.{get}
 use Rattle.std.specs.Ordering.{is_eq}
