@@ -1,5 +1,5 @@
 -- How many entries a slice has, by places.
-use Rattle.std.proofs.Common.{◌≡◌, ℕ, zero, suc, ◌+◌, Bool, true, false, cond, ◌&&◌, List, [], ◌∷◌, length, is_some, None, Some, refl, sym, ap, ◌≤◌, ◌∙◌, arith}
+use Rattle.std.proofs.Common.{◌≡◌, ℕ, ◌+◌, true, false, cond, ◌&&◌, List, [], ◌∷◌, length, is_some, None, Some, refl, sym, ap, ◌≤◌, ◌∙◌, arith}
 use Rattle.std.specs.declared.cmp.Ordering.{Ordering}
 use Rattle.std.specs.declared.cmp.Ordering.TheVariants.{Less, Equal, Greater}
 use Rattle.std.specs.Ordering.{is_eq, is_lt, is_gt, is_le, is_ge}
@@ -7,7 +7,6 @@ use Rattle.std.specs.Cmp.{IsTotalOrder}
 use Rattle.std.proofs.lemmas.Cmp.{upto}
 use Rattle.map_model.specs.Entries.{IsIncreasing, lookup, below}
 use Rattle.map_model.specs.Parts.{left_of, rank, slice}
-use Rattle.map_model.proofs.Keys.{by_order}
 use Rattle.map_model.proofs.Lookups.{lookup-behind}
 use Rattle.map_model.proofs.Lengths.{length-filter_le}
 use Rattle.map_model.proofs.Ranges.{slice-none}

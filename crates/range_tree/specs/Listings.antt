@@ -2,7 +2,7 @@
 use Rattle.std.specs.Prelude.{◌≡◌, ℕ, Bool, true, false, cond, ◌&&◌, List, [], ◌∷◌, ◌++◌, map, Option, Some, None, refl}
 use Rattle.std.proofs.Common.{sym, ap, ap₂, ◌∙◌}
 use Rattle.std.specs.List.{filter}
-use Rattle.std.specs.Option.{option_or, option_map_or}
+use Rattle.std.specs.Option.{option_or}
 use Rattle.std.specs.declared.cmp.Ordering.TheVariants.{Less, Equal, Greater}
 use Rattle.std.specs.Ordering.{is_eq, is_ge, is_le}
 use Rattle.std.proofs.lemmas.List.{append_assoc, append-nil}
@@ -18,7 +18,7 @@ use Rattle.map_model.proofs.Operations.{build-is, last_at-cons}
 use Rattle.map_model.proofs.Unions.{united}
 use Rattle.range_tree.specs.Places.{swapped, lines, least_at, greatest_at, pair64_total}
 use Rattle.range_tree.specs.Rows.{AreRows, row_of, rows_of, rows_of_both, lookup-both}
-use Rattle.range_tree.specs.Totals.{is_eq-swapped, rows_increase, row_absent}
+use Rattle.range_tree.specs.Totals.{is_eq-swapped, rows_increase}
 
 -- an entry of rows as one of points
 abbrev pub swapped_entry : Pair64 × ℕ → Pair64 × ℕ

@@ -1,5 +1,5 @@
 -- What contracts say of points: the map from (x, y) to weight, by increasing places.
-use Rattle.std.specs.Prelude.{ℕ, ◌-◌, ◌^◌, ◌&&◌, Bool, List, length, map, min, nat_le, sum_by}
+use Rattle.std.specs.Prelude.{ℕ, ◌-◌, ◌^◌, ◌&&◌, Bool, List, length, min, nat_le, sum_by}
 use Rattle.std.specs.List.{filter}
 use Rattle.aug_monoid.specs.declared.pair64.Pair64.{Pair64}
 use Rattle.range_tree.specs.declared.points.Point.{Point}

@@ -1,8 +1,8 @@
 -- Totals of rows, and how they are combined.
-use Rattle.std.specs.Prelude.{◌≡◌, ℕ, ◌+◌, ◌-◌, ◌^◌, ◌≤◌, Bool, true, false, cond, ◌&&◌, List, [], ◌∷◌, ◌++◌, length, min, sum_by, refl, None}
+use Rattle.std.specs.Prelude.{◌≡◌, ℕ, ◌+◌, ◌-◌, ◌^◌, ◌≤◌, Bool, true, false, cond, ◌&&◌, List, [], ◌∷◌, ◌++◌, length, min, refl, None}
 use Rattle.std.proofs.Common.{sym, ap, ap₂, ◌∙◌, arith, length-append}
 use Rattle.std.specs.List.{filter}
-use Rattle.std.specs.declared.cmp.Ordering.TheVariants.{Less, Greater}
+use Rattle.std.specs.declared.cmp.Ordering.TheVariants.{Less}
 use Rattle.std.specs.Ordering.{is_eq, is_ge, is_le, nat_cmp}
 use Rattle.std.specs.Cmp.{tied_then}
 use Rattle.std.proofs.Math.Bool.{and_comm}

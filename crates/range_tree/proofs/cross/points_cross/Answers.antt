@@ -6,3 +6,9 @@ crosses-requires-send-T c κs = search crosses depth 20
 
 pub crosses-requires-sync-T : goal.crosses-requires-sync-T
 crosses-requires-sync-T c κs = search crosses depth 20
+
+pub crosses-requires-2-send-T : goal.crosses-requires-2-send-T
+crosses-requires-2-send-T c κs = search crosses depth 20
+
+pub crosses-requires-2-sync-T : goal.crosses-requires-2-sync-T
+crosses-requires-2-sync-T c κs = search crosses depth 20

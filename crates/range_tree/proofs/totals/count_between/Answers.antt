@@ -1,6 +1,6 @@
-use Rattle.std.proofs.Common.{◌≡◌, false, is_gt, length, sym, ap, ◌∙◌, arith}
+use Rattle.std.proofs.Common.{◌≡◌, is_gt, sym, ap, ◌∙◌, arith}
 use Rattle.aug_monoid.specs.Exact.{pair64_cmp}
-use Rattle.map_model.specs.Parts.{left_of, rank}
+use Rattle.map_model.specs.Parts.{rank}
 use Rattle.range_tree.proofs.Counts.{counted_between, counted_none}
 use Rattle.range_tree.proofs.totals.count_between.Goals as goal
 

@@ -1,5 +1,4 @@
-use Rattle.std.proofs.Common.{◌≡◌, ◌+◌, ◌++◌, ◌∷◌, [], map, take, ap, sym, refl, ◌∙◌, arith, rules}
-use Rattle.range_tree.specs.Points.{entry_of}
+use Rattle.std.proofs.Common.{rules}
 use Rattle.range_tree.proofs.Kept.{entries_more, places_more}
 use Rattle.range_tree.proofs.tree.entries_of.Goals as goal
 

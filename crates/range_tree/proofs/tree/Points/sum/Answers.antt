@@ -2,7 +2,6 @@ use Rattle.std.proofs.Common.{◌≡◌, ◌^◌, ◌<◌, [], length, ap, ap₂
 use Rattle.std.proofs.lemmas.Result.{IfOk-weaker}
 use Rattle.aug_monoid.specs.Exact.{pair64_cmp}
 use Rattle.map_model.specs.Fold.{range_fold}
-use Rattle.range_tree.specs.Places.{greatest_at, least_at}
 use Rattle.range_tree.specs.Points.{inside, total_of}
 use Rattle.range_tree.specs.Rows.{row_of, rows_of_both}
 use Rattle.range_tree.specs.Totals.{rows_total}
