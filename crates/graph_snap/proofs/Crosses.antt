@@ -9,7 +9,7 @@ use Rattle.std.specs.contracts.prelude.U64Ord.TheImpl as ordered
 use Rattle.std.specs.contracts.prelude.U64PartialEq.TheImpl as equal
 use Rattle.std.specs.contracts.prelude.U64PartialOrd.TheImpl as compared
 use Rattle.aug_monoid.specs.contracts.share.U64Share.TheImpl as shared
-use Rattle.tree_base.proofs.tree.TreeOver.TheLaws.TheKnot.{crosses as tree_crosses}
+use Rattle.tree_base.proofs.tree.TreeOver.TheLaws.TheKnot.{both_send-TreeOver as tree_send, both_sync-TreeOver as tree_sync}
 use Rattle.tree_base.proofs.tree.Block.TheSendSync as Block
 use Rattle.leaf_blocks.proofs.plain_leaf.PlainLeaf.TheSendSync as PlainLeafSent
 use Rattle.leaf_blocks.specs.contracts.plain_leaf.PlainLeaf as PlainLeaf
@@ -18,10 +18,10 @@ use Rattle.graph_snap.specs.contracts.neighbours.Neighbours as Neighbours
 use Rattle.graph_snap.specs.contracts.neighbours.NeighboursShare.TheImpl as set_shared
 
 pub set_send : IsSend Neighbours.the_row
-set_send = search (sendable, std_crosses, tree_crosses, Block.the_send, Block.the_sync, DiffLeaf.the_send, DiffLeaf.the_sync) depth 20
+set_send = search (sendable, std_crosses, tree_send, tree_sync, Block.the_send, Block.the_sync, DiffLeaf.the_send, DiffLeaf.the_sync) depth 20
 
 pub set_sync : IsSync Neighbours.the_row
-set_sync = search (sendable, std_crosses, tree_crosses, Block.the_send, Block.the_sync, DiffLeaf.the_send, DiffLeaf.the_sync) depth 20
+set_sync = search (sendable, std_crosses, tree_send, tree_sync, Block.the_send, Block.the_sync, DiffLeaf.the_send, DiffLeaf.the_sync) depth 20
 
 -- a block of vertices with their sets
 abbrev pub block : RattleType
@@ -40,4 +40,4 @@ block_sent = param_send 1 block block_send
 pub set_sent : IsSend (param 4 Neighbours.the_row)
 set_sent = param_send 4 Neighbours.the_row set_send
 
-pub ruleset crosses = (set_send, set_sync, sendable, std_crosses, tree_crosses, Block.the_send, Block.the_sync, PlainLeafSent.the_send, PlainLeafSent.the_sync)
+pub ruleset crosses = (set_send, set_sync, sendable, std_crosses, tree_send, tree_sync, Block.the_send, Block.the_sync, PlainLeafSent.the_send, PlainLeafSent.the_sync)
