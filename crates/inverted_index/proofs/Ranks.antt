@@ -170,5 +170,9 @@ pub no_greatest : (totals : Totals) (m : List (ℕ × ℕ)) → (IsNone (Some to
 no_greatest totals [] none is less = let bad : true ≡ false = none.1 refl in cc
 no_greatest totals (e ∷ m) none is less = some_greatest (e ∷ m) (λ empty. cc) (let Below : Totals → Type 0 = λ t. AreBelow t.greatest (e ∷ m) in subst Below is less)
 
+pub leads_none : (m : List (ℕ × ℕ)) (o : Option Hit) → Leads m o → ((hit : Hit) → o ≡ Some hit → ⊥) → m ≡ []
+leads_none m None h none = h
+leads_none m (Some hit) h none = absurd (none hit refl)
+
 pub leads_some : (m : List (ℕ × ℕ)) (o : Option Hit) (hit : Hit) → Leads m o → o ≡ Some hit → ranked m ≡ (hit.doc, hit.weight) ∷ ranked (drop_key nat_cmp m hit.doc)
 leads_some m o hit h is = let Is : Option Hit → Type 0 = λ x. Leads m x in subst Is is h
