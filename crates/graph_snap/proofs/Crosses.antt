@@ -18,10 +18,10 @@ use Rattle.graph_snap.specs.contracts.neighbours.Neighbours as Neighbours
 use Rattle.graph_snap.specs.contracts.neighbours.NeighboursShare.TheImpl as set_shared
 
 pub set_send : IsSend Neighbours.the_row
-set_send = search (sendable, std_crosses, tree_send, tree_sync, Block.the_send, Block.the_sync, DiffLeaf.the_send, DiffLeaf.the_sync) depth 20
+set_send = search (sendable, std_crosses, tree_send, Block.the_send, Block.the_sync, DiffLeaf.the_send, DiffLeaf.the_sync) depth 20
 
 pub set_sync : IsSync Neighbours.the_row
-set_sync = search (sendable, std_crosses, tree_send, tree_sync, Block.the_send, Block.the_sync, DiffLeaf.the_send, DiffLeaf.the_sync) depth 20
+set_sync = search (sendable, std_crosses, tree_sync, Block.the_send, Block.the_sync, DiffLeaf.the_send, DiffLeaf.the_sync) depth 20
 
 -- a block of vertices with their sets
 abbrev pub block : RattleType
