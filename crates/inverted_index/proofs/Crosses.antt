@@ -23,10 +23,10 @@ pub term_sync : IsSync Term.the_row
 term_sync = search (sendable, std_crosses) depth 20
 
 pub postings_send : IsSend Postings.the_row
-postings_send = search (tree_send, tree_sync, PlainLeafSent.the_send, PlainLeafSent.the_sync, Block.the_send, Block.the_sync, sendable, std_crosses) depth 20
+postings_send = search (sendable, std_crosses, tree_send, Block.the_send, Block.the_sync, PlainLeafSent.the_send, PlainLeafSent.the_sync) depth 20
 
 pub postings_sync : IsSync Postings.the_row
-postings_sync = search (tree_send, tree_sync, PlainLeafSent.the_send, PlainLeafSent.the_sync, Block.the_send, Block.the_sync, std_crosses, sendable) depth 20
+postings_sync = search (sendable, std_crosses, tree_sync, Block.the_send, Block.the_sync, PlainLeafSent.the_send, PlainLeafSent.the_sync) depth 20
 
 -- a block of terms with their postings
 abbrev pub block : RattleType

@@ -9,10 +9,10 @@ use Rattle.row_leaf.proofs.leaf.RowLeaf.TheSendSync as RowLeaf
 use Rattle.range_tree.specs.contracts.rows.Rows as Rows
 
 pub rows_send : IsSend Rows.the_row
-rows_send = search (sendable, std_crosses, tree_send, tree_sync, Block.the_send, Block.the_sync, RowLeaf.the_send, RowLeaf.the_sync) depth 20
+rows_send = search (sendable, std_crosses, tree_send, Block.the_send, Block.the_sync, RowLeaf.the_send, RowLeaf.the_sync) depth 20
 
 pub rows_sync : IsSync Rows.the_row
-rows_sync = search (sendable, std_crosses, tree_send, tree_sync, Block.the_send, Block.the_sync, RowLeaf.the_send, RowLeaf.the_sync) depth 20
+rows_sync = search (sendable, std_crosses, tree_sync, Block.the_send, Block.the_sync, RowLeaf.the_send, RowLeaf.the_sync) depth 20
 
 -- what a call of a map asks of its folds
 pub rows_sent : IsSend (param 5 Rows.the_row)
