@@ -1,6 +1,5 @@
 -- The ends of edges, in order.
 use Rattle.std.proofs.Common.{◌≡◌, ◌∙◌, ◌∷◌, ◌≤◌, ◌<◌, [], ℕ, zero, suc, true, false, List, Some, cond, get_or, length, nat_lt, refl, sym, ap, subst, arith}
-use Rattle.std.specs.declared.cmp.Ordering.{Ordering}
 use Rattle.std.specs.declared.cmp.Ordering.TheVariants.{Less, Equal, Greater}
 use Rattle.std.specs.List.{AllByRecursion, Contains, flat_map}
 use Rattle.std.specs.List.Sorted.{IsNonDecreasing, IsPartitionPoint}

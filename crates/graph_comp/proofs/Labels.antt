@@ -12,7 +12,7 @@ use Rattle.map_model.proofs.NatKeys.{lt_from_less}
 use Rattle.graph_snap.specs.Edges.{elements, pairs_of}
 use Rattle.graph_snap.specs.declared.edge.Edge.{Edge}
 use Rattle.graph_comp.specs.Components.{AreComponents, AreJoined, IsLeastJoined, ends, least_joined}
-use Rattle.graph_comp.specs.Forests.{KeepsEdges, KeepsTrees, Spans}
+use Rattle.graph_comp.specs.Forests.{KeepsEdges, Spans}
 use Rattle.graph_comp.specs.declared.labelled.Labelled.{Labelled}
 use Rattle.graph_comp.proofs.Ends.{ends_rise, in_order}
 use Rattle.graph_comp.proofs.Joined.{IsLabelling, joined_back, joined_itself, joined_on, settled_least}

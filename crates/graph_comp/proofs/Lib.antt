@@ -5,3 +5,4 @@ pub mod Ends
 pub mod Trees
 pub mod Spans
 pub mod Labels
+pub mod Walks

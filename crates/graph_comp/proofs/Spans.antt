@@ -1,11 +1,11 @@
 -- Forests of edges.
-use Rattle.std.proofs.Common.{◌≡◌, ◌∙◌, ◌++◌, ◌∷◌, ◌+◌, ◌≤◌, ◌<◌, [], ℕ, List, drop, get_or, length, take, refl, sym, ap, subst, arith}
+use Rattle.std.proofs.Common.{◌≡◌, ◌∙◌, ◌++◌, ◌∷◌, ◌+◌, ◌≤◌, ◌<◌, [], ℕ, List, drop, get_or, length, take, sym, ap, subst, arith}
 use Rattle.std.specs.Prelude.{◌↔◌, All}
 use Rattle.std.specs.List.{AllByRecursion, Contains}
 use Rattle.std.proofs.lemmas.List.{get_or_default, take-append-le, take_all, take_more}
 use Rattle.std.proofs.lemmas.List.Elements.{All-append, All-cons, All-from_recursion, All-head, All-nil, recursion_from_All}
 use Rattle.graph_snap.specs.declared.edge.Edge.{Edge}
-use Rattle.graph_comp.specs.Forests.{HasEnds, IsForest, KeepsEdges, KeepsTrees, Spans}
+use Rattle.graph_comp.specs.Forests.{HasEnds, IsForest, KeepsTrees, Spans}
 use Rattle.graph_comp.proofs.Trees.{KeepSame}
 
 -- what holds of each element of two lists in a row holds of each one's

@@ -41,10 +41,6 @@ marks_end all list known docs n high so_far = sym (so_far ∙ ap (λ l. list ++ 
 pub known_end : (all known : List (ℕ × ℕ)) (docs : List Doc) (n : ℕ) → length docs ≤ n → all ≡ all_knowing known (drop n docs) → known ≡ all
 known_end all known docs n high so_far = sym (so_far ∙ ap (all_knowing known) (drop_all n docs high))
 
--- an element of a list is the same whatever stands for those past its end
-pub same_read : {X : Type 0} (xs : List X) (i : ℕ) (d e : X) → i < length xs → get_or xs i d ≡ get_or xs i e
-same_read xs i d e low = let same : get_or xs i d ∷ drop (suc i) xs ≡ get_or xs i e ∷ drop (suc i) xs = sym (drop-cons xs i d low) ∙ drop-cons xs i e low in cc
-
 rest_from : {X : Type 0} (xs : List X) (i : ℕ) (d : X) → i < length xs → drop i xs ≡ get_or xs i d ∷ drop (i + 1) xs
 rest_from xs i d low = let next : suc i ≡ i + 1 = omega arith in drop-cons xs i d low ∙ ap (λ n. get_or xs i d ∷ drop n xs) next
 

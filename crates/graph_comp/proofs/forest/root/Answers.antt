@@ -1,4 +1,4 @@
-use Rattle.std.proofs.Common.{◌≤◌, get_or, arith, refl}
+use Rattle.std.proofs.Common.{arith, refl}
 use Rattle.graph_comp.proofs.Trees.{at_root, climbed_more, climbs, same_itself}
 use Rattle.graph_comp.proofs.forest.root.Goals as goal
 

@@ -1,10 +1,11 @@
 use Rattle.std.proofs.Common.{◌<◌, [], arith, false, get_or, length}
+use Rattle.std.proofs.lemmas.List.{get_or_default}
 use Rattle.std.specs.BTreeMap.{get}
 use Rattle.inverted_index.specs.Batches.{outcome_of}
 use Rattle.inverted_index.specs.Terms.{bytes_cmp}
 use Rattle.inverted_index.specs.declared.marking.Marked.{Marked}
 use Rattle.inverted_index.proofs.Batches.{fit_more, gathered_whole, table_more}
-use Rattle.inverted_index.proofs.Steps.{map_more, same_read}
+use Rattle.inverted_index.proofs.Steps.{map_more}
 use Rattle.inverted_index.proofs.batch.gathered_part.Goals as goal
 
 -- what stands for the documents past the end
@@ -18,7 +19,7 @@ loop-doc-preserved c =
     let low : at < length docs = omega arith in
     let is = c.in_ok-gather.ensures in
     let doc = get_or docs at empty in
-    let same = same_read docs at empty doc low in
+    let same = get_or_default docs at empty doc low in
     record {
       found = λ t. table_more docs at doc t (get bytes_cmp c.gather.new.table t) (get bytes_cmp c.loop-doc.table t) low same (c.loop-doc.invariant.found t) (is.after t);
       told = map_more outcome_of docs at doc c.push.new.self.items c.loop-doc.outcomes.items c.in_ok-gather.field-0 low same c.loop-doc.invariant.told is.outcome c.in_ok-push.ensures.items;
