@@ -48,7 +48,7 @@ fn answer<R: Threads + Sync, G: Gate>(
 
 // Runs a command on an index and documents that wait to be added to it: one that adds a document lets it wait, a question is
 // answered once none waits.
-#[tactic(auto, using(crate::proofs::Waiting::docs_more, crate::proofs::Waiting::lines_more, crate::proofs::Waiting::asks_keeps))]
+#[tactic(auto, using(crate::proofs::Waiting::asks_keeps))]
 fn run_command<'a, R: Threads + Sync, G: Gate>(
     rt: &R,
     alloc: Global,
@@ -83,7 +83,6 @@ fn run_command<'a, R: Threads + Sync, G: Gate>(
 
 /// The replies to the commands, run in order on an index of no documents, which depend neither on the runtime nor on the gate
 /// nor on the cut. Commands in a row that add documents are one batch, which forks where the cut allows it.
-#[tactic(auto, using(crate::proofs::Waiting::replies_more, crate::proofs::Waiting::replies_whole))]
 pub fn run_index<R: Threads + Sync, G: Gate>(
     rt: &R,
     alloc: Global,
