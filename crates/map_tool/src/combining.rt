@@ -153,6 +153,7 @@ fn overlap(alloc: Global, a: &Register, b: &Register) -> Result<bool, NoMemory>
 }
 
 // All entries of two maps, and none where they overlap.
+#[tactic(auto, using(crate::proofs::Overlaps::joins_before))]
 fn joined<C: Ledger>(
     alloc: Global,
     a: &Register,

@@ -41,7 +41,6 @@ impl Drop for Registers {
 
 impl Registers {
     /// Sixteen registers, each with an empty map.
-    #[tactic(auto, using(crate::proofs::Kept::emptied))]
     pub fn empty(alloc: Global) -> Result<Registers, NoMemory>
         ensures { IfOk result (λ registers. maps_of registers ≡ empty_registers) }
     {

@@ -1,10 +1,11 @@
-use Rattle.std.proofs.Common.{◌≡◌, ◌++◌, ap₂, ◌∙◌}
+use Rattle.std.proofs.Common.{◌≡◌, ◌++◌, ap₂, length, sym, ◌∙◌, arith}
+use Rattle.std.proofs.lemmas.Bool.{eqb-true}
 use Rattle.std.proofs.lemmas.List.{take-append-drop}
 use Rattle.map_records.specs.MapRecords.{HasRegisters}
 use Rattle.map_tool.specs.Effects.{map_after, map_reply}
 use Rattle.map_tool.specs.Registers.{empty_registers, maps_of}
 use Rattle.map_tool.proofs.Rows.{All-back, replies-next_run}
-use Rattle.script.specs.Replies.{replies}
+use Rattle.script.specs.Replies.{replies, replies-end}
 use Rattle.map_tool.proofs.running.run_all.Goals as goal
 
 pub loop-rest-preserved : goal.loop-rest-preserved
@@ -20,3 +21,7 @@ loop-rest-preserved g c =
           (maps_of c.loop-rest.registers) (maps_of c.run_together.new.registers) rest run later parts
           c.loop-rest.invariant.same c.in_ok-run_together.ensures.replies c.in_ok-run_together.ensures.after;
     }
+
+pub returns : goal.returns
+returns g c =
+    sym (replies-end map_reply map_after (replies map_reply map_after empty_registers c.args.commands.now) c.loop-rest.text.items (maps_of c.loop-rest.registers) c.loop-rest.rest.now 0 (omega (arith, eqb-true (length c.loop-rest.rest.now) 0 (sym c.loop-rest-test.ensures))) c.loop-rest.invariant.same)
