@@ -7,7 +7,7 @@ use Rattle.std.specs.Ordering.{nat_cmp}
 use Rattle.std.specs.declared.cmp.Ordering.TheVariants.{Less}
 use Rattle.map_model.specs.Entries.{AllAbove, IsBefore, IsIncreasing, above, below, lookup}
 use Rattle.map_model.proofs.Filters.{filter-all_keys}
-use Rattle.map_model.proofs.Keys.{AllKeys-all, AllKeys-map, IsIncreasing-append, IsIncreasing-filter}
+use Rattle.map_model.proofs.Keys.{AllKeys-all, AllKeys-map, IsBefore-from_append, IsIncreasing-append, IsIncreasing-filter}
 use Rattle.map_model.proofs.Lookups.{equal_lookups, lookup-above, lookup-append, lookup-below, lookup-filter_keys}
 use Rattle.map_model.proofs.NatKeys.{is_gt-nat_cmp, is_lt-nat_cmp, less-nat_cmp, lt_from_less, nat_exact}
 use Rattle.map_model.proofs.Splits.{AllKeys-above, AllKeys-below, IsIncreasing-above, IsIncreasing-below}
@@ -45,3 +45,11 @@ wiped_sides m lo hi h rises =
     ∙ either_side (nat_lt q lo) (nat_lt hi q) (lookup nat_cmp m q)
     ∙ ap₂ (λ l r. option_or (cond l (lookup nat_cmp m q) None) (cond r (lookup nat_cmp m q) None)) (sym (is_lt-nat_cmp q lo)) (sym (is_gt-nat_cmp q hi))
     ∙ sym (lookup-append nat_cmp (below nat_cmp m lo) (above nat_cmp m hi) q ∙ ap₂ option_or (lookup-below nat_exact m lo q) (lookup-above nat_exact m hi q)))
+
+-- so of two maps with these entries
+pub parts_apart : (m l r : List (ℕ × ℕ)) (lo hi : ℕ) → lo ≤ hi → l ≡ below nat_cmp m lo → r ≡ above nat_cmp m hi → IsBefore nat_cmp l r
+parts_apart m l r lo hi h is_below is_above = rw (is_below, is_above) (sides_apart m lo hi h)
+
+-- the first of two lists whose keys rise behind one another comes before the second
+pub ends_apart : (l r : List (ℕ × ℕ)) → IsIncreasing nat_cmp (l ++ r) → IsBefore nat_cmp l r
+ends_apart l r rises = IsBefore-from_append nat_cmp l r rises

@@ -11,6 +11,7 @@ use std::sync::ledger::Ledger;
 pub(crate) type ServedMap = PlainMap<SumMax<u64>>;
 
 /// The entries below `lo` and those above `hi`, in time linear in the height.
+#[tactic(auto, using(crate::proofs::Wipes::parts_apart))]
 pub(crate) fn without_range<C: Ledger>(
     alloc: Global,
     map: &ServedMap,

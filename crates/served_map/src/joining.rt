@@ -85,6 +85,7 @@ fn joined<C: Ledger>(
 }
 
 /// The map of two maps, the first before the second.
+#[tactic(auto, using(crate::proofs::Wipes::ends_apart))]
 fn appended<C: Ledger>(
     alloc: Global,
     left: &ServedMap,
