@@ -2,68 +2,85 @@
 ghost use Rattle.std.specs.Prelude.{◌≡◌, ◌<◌};
 ghost use Rattle.map_model.specs.Balance.{IsBlockSize};
 
-use crate::changes::{Tally, evens};
+use crate::changes::{Block, evens};
 use crate::counted::Counted;
+use crate::sums::Sums;
 use crate::work::Work;
-use aug_monoid::{NoMemory, Steps};
+use aug_map::Map;
+use aug_monoid::{Augment, LeafMut, Steps};
 use std::alloc::Global;
 use std::marker::Brand;
+use std::process::Abort;
 use std::sync::ledger::{Blank, Ledger};
-use std::test::Fail;
 
 /// The most that a fold of a range combines.
-fn most_combined<'a, const B: usize, C: Ledger>(
-    alloc: Global,
-    map: &Tally<'a, B>,
-    work: &'a Work,
-    steps: &mut Steps<C>,
-) -> Result<u64, NoMemory> {
+fn most_combined<
+    'a,
+    R: Abort,
+    A: Augment<Key = Counted<'a>, Val = u64>,
+    L: LeafMut<Counted<'a>, u64>,
+    const B: usize,
+    C: Ledger,
+>(rt: &R, alloc: Global, map: &Map<A, L, B>, work: &'a Work, steps: &mut Steps<C>) -> u64 {
     let mut most = 0;
     for number in [0, 1, 77, 1_024, 4_096, 8_190] {
         let lo = Counted::new(number, work);
         let hi = Counted::new(number + 3_000, work);
         work.take();
-        map.aug_left(alloc, &lo, steps)?;
+        map.aug_left(alloc, &lo, steps).expect(rt, "memory");
         most = work.take().combined.max(most);
-        map.aug_right(alloc, &lo, steps)?;
+        map.aug_right(alloc, &lo, steps).expect(rt, "memory");
         most = work.take().combined.max(most);
-        map.aug_range(alloc, &lo, &hi, steps)?;
+        map.aug_range(alloc, &lo, &hi, steps).expect(rt, "memory");
         most = work.take().combined.max(most);
     }
-    Ok(most)
+    most
 }
 
-fn are_few_in<const B: usize, C: Ledger>(
-    alloc: Global,
-    steps: &mut Steps<C>,
-) -> Result<bool, NoMemory>
+fn are_few_in<
+    'a,
+    R: Abort,
+    A: Augment<Key = Counted<'a>, Val = u64>,
+    L: LeafMut<Counted<'a>, u64>,
+    const B: usize,
+    C: Ledger,
+>(rt: &R, alloc: Global, work: &'a Work, steps: &mut Steps<C>) -> bool
     requires size { IsBlockSize B }
 {
-    let work = Work::new();
-    let map = evens::<B, C>(alloc, &work, steps)?;
-    let most = most_combined(alloc, &map, &work, steps)?;
-    Ok(most <= 8 * map.height() as u64 + 16 * B as u64)
+    let map = evens::<R, A, L, B, C>(rt, alloc, work, steps);
+    let most = most_combined(rt, alloc, &map, work, steps);
+    most <= 8 * map.height() as u64 + 16 * B as u64
 }
 
 /// The same for blocks of 1, 2 and 32 entries.
-fn are_few_counted<C: Ledger>(alloc: Global, blank: Blank) -> Result<[bool; 3], NoMemory>
+fn are_few_at_sizes<
+    'a,
+    R: Abort,
+    A: Augment<Key = Counted<'a>, Val = u64>,
+    L: LeafMut<Counted<'a>, u64>,
+    C: Ledger,
+>(rt: &R, alloc: Global, work: &'a Work, steps: &mut Steps<C>) -> [bool; 3] {
+    let one = are_few_in::<R, A, L, 1, C>(rt, alloc, work, steps);
+    let two = are_few_in::<R, A, L, 2, C>(rt, alloc, work, steps);
+    let many = are_few_in::<R, A, L, 32, C>(rt, alloc, work, steps);
+    [one, two, many]
+}
+
+fn are_few_counted<R: Abort, C: Ledger>(rt: &R, alloc: Global, blank: Blank) -> [bool; 3]
     requires name { blank.name ≡ C.name }
     requires parts { blank.parts ≡ C.parts }
     requires some { 0 < blank.parts }
 {
     let mut steps = Steps::<C>::start(blank);
-    let one = are_few_in::<1, C>(alloc, &mut steps)?;
-    let two = are_few_in::<2, C>(alloc, &mut steps)?;
-    let many = are_few_in::<32, C>(alloc, &mut steps)?;
-    Ok([one, two, many])
+    let work = Work::new();
+    are_few_at_sizes::<R, Sums<'_>, Block<'_>, C>(rt, alloc, &work, &mut steps)
 }
 
-fn are_few(alloc: Global) -> Result<[bool; 3], NoMemory> {
-    are_few_counted::<Brand>(alloc, Blank::new(1))
+fn are_few<R: Abort>(rt: &R, alloc: Global) -> [bool; 3] {
+    are_few_counted::<R, Brand>(rt, alloc, Blank::new(1))
 }
 
 #[test]
-fn folds_of_ranges_combine_along_two_paths(rt: HostRuntime) -> Result<(), Fail> {
-    assert_eq!(rt; are_few(rt.alloc())?, [true; 3]);
-    Ok(())
+fn folds_of_ranges_combine_along_two_paths(rt: HostRuntime) {
+    assert_eq!(rt; are_few(&rt, rt.alloc()), [true; 3]);
 }

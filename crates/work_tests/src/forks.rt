@@ -2,17 +2,15 @@
 ghost use Rattle.std.specs.Prelude.{◌≡◌, ◌+◌, ◌-◌, ◌^◌, ◌≤◌, min, true};
 ghost use Rattle.std.proofs.Common.{arith};
 
-use aug_map::{Map, MapOver};
-use aug_monoid::{First, NoMemory, Reduce, SumMax, Test};
+use aug_map::{IntoEntries, Map, MapOver};
+use aug_monoid::{Augment, First, Leaf, NoMemory, Reduce, SumMax, SyncAugment, Test};
 use fork_join::{Cut, FreeGate};
 use leaf_blocks::PlainLeaf;
 use meeting::Meeting;
 use std::alloc::Global;
-use std::marker::Sync;
-use std::test::Fail;
+use std::marker::{Send, Sync};
+use std::process::Abort;
 use std::thread::Threads;
-
-type Sums = Map<SumMax<u64>, PlainLeaf<u64, u64>, 32>;
 
 /// Every entry.
 #[derive(Drop)]
@@ -56,77 +54,130 @@ impl Reduce<u64, u64> for Every {
 }
 
 /// The multiples of a number below 60000, each with itself as value.
-fn multiples(alloc: Global, step: u64) -> Result<Vec<(u64, u64)>, NoMemory> {
+fn multiples<R: Abort>(rt: &R, alloc: Global, step: u64) -> Vec<(u64, u64)> {
     let mut pairs = Vec::new(alloc);
     for key in 0..60_000u64 {
         if key.is_multiple_of(step) {
-            pairs.push((key, key))?;
+            pairs.push((key, key)).expect(rt, "memory");
         }
     }
-    Ok(pairs)
+    pairs
 }
 
-fn map_of<R: Threads + Sync>(rt: &R, alloc: Global, step: u64) -> Result<Sums, NoMemory> {
-    let pairs = multiples(alloc, step)?;
-    MapOver::build(rt, alloc, &FreeGate, Cut::new(1, 1), &pairs)
+fn map_of<
+    R: Threads + Abort + Sync,
+    A: Augment<Key = u64, Val = u64> + SyncAugment,
+    L: Leaf<u64, u64> + Send + Sync,
+>(rt: &R, alloc: Global, step: u64) -> Map<A, L, 32> {
+    let pairs = multiples(rt, alloc, step);
+    MapOver::build(rt, alloc, &FreeGate, Cut::new(1, 1), &pairs).expect(rt, "memory")
 }
 
 /// The size of a map that is built, and whether its halves met.
-fn built<R: Threads + Sync>(rt: &R, alloc: Global) -> Result<(u64, bool), NoMemory> {
-    let pairs = multiples(alloc, 2)?;
+fn built<
+    R: Threads + Abort + Sync,
+    A: Augment<Key = u64, Val = u64> + SyncAugment,
+    L: Leaf<u64, u64> + Send + Sync,
+>(rt: &R, alloc: Global) -> (u64, bool) {
+    let pairs = multiples(rt, alloc, 2);
     let gate = Meeting::new();
-    let map: Sums = MapOver::build(rt, alloc, &gate, Cut::new(2, 1), &pairs)?;
-    Ok((map.size(), gate.was_met()))
+    let map: Map<A, L, 32> = MapOver::build(rt, alloc, &gate, Cut::new(2, 1), &pairs).expect(
+        rt, "memory",
+    );
+    (map.size(), gate.was_met())
 }
 
 /// A map that is given up.
-fn united_into<R: Threads + Sync>(rt: &R, alloc: Global) -> Result<(u64, bool), NoMemory> {
-    let a = map_of(rt, alloc, 2)?;
-    let b = map_of(rt, alloc, 3)?;
-    let list = b.to_vec(alloc)?;
+fn united_into<
+    R: Threads + Abort + Sync,
+    A: Augment<Key = u64, Val = u64> + SyncAugment,
+    L: IntoEntries<u64, u64> + Send + Sync,
+>(rt: &R, alloc: Global, a: Map<A, L, 32>, b: &Map<A, L, 32>) -> (u64, bool) {
+    let list = b.to_vec(alloc).expect(rt, "memory");
     let _size = b.size(); // for the proof alone: keys rise
     let gate = Meeting::new();
-    let map = a.union_into(rt, alloc, &gate, Cut::new(2, 1), &list, &First)?;
-    Ok((map.size(), gate.was_met()))
+    let map = a
+        .union_into(rt, alloc, &gate, Cut::new(2, 1), &list, &First)
+        .expect(rt, "memory");
+    (map.size(), gate.was_met())
 }
 
-fn intersected<R: Threads + Sync>(rt: &R, alloc: Global) -> Result<(u64, bool), NoMemory> {
-    let a = map_of(rt, alloc, 2)?;
-    let b = map_of(rt, alloc, 3)?;
+fn intersected<R: Threads + Abort + Sync, A: SyncAugment, L: Leaf<A::Key, A::Val> + Send + Sync>(
+    rt: &R,
+    alloc: Global,
+    a: &Map<A, L, 32>,
+    b: &Map<A, L, 32>,
+) -> (u64, bool) {
     let gate = Meeting::new();
-    let map = a.intersect(rt, alloc, &gate, Cut::new(2, 1), &b, &First)?;
-    Ok((map.size(), gate.was_met()))
+    let map = a
+        .intersect(rt, alloc, &gate, Cut::new(2, 1), b, &First)
+        .expect(rt, "memory");
+    (map.size(), gate.was_met())
 }
 
-fn subtracted<R: Threads + Sync>(rt: &R, alloc: Global) -> Result<(u64, bool), NoMemory> {
-    let a = map_of(rt, alloc, 2)?;
-    let b = map_of(rt, alloc, 3)?;
+fn subtracted<R: Threads + Abort + Sync, A: SyncAugment, L: Leaf<A::Key, A::Val> + Send + Sync>(
+    rt: &R,
+    alloc: Global,
+    a: &Map<A, L, 32>,
+    b: &Map<A, L, 32>,
+) -> (u64, bool) {
     let gate = Meeting::new();
-    let map = a.difference(rt, alloc, &gate, Cut::new(2, 1), &b)?;
-    Ok((map.size(), gate.was_met()))
+    let map = a
+        .difference(rt, alloc, &gate, Cut::new(2, 1), b)
+        .expect(rt, "memory");
+    (map.size(), gate.was_met())
 }
 
-fn filtered<R: Threads + Sync>(rt: &R, alloc: Global) -> Result<(u64, bool), NoMemory> {
-    let a = map_of(rt, alloc, 2)?;
+fn filtered<
+    R: Threads + Abort + Sync,
+    A: Augment<Key = u64, Val = u64> + SyncAugment,
+    L: Leaf<u64, u64> + Send + Sync,
+>(rt: &R, alloc: Global, a: &Map<A, L, 32>) -> (u64, bool) {
     let gate = Meeting::new();
-    let map = a.filter(rt, alloc, &gate, Cut::new(2, 1), &Every)?;
-    Ok((map.size(), gate.was_met()))
+    let map = a
+        .filter(rt, alloc, &gate, Cut::new(2, 1), &Every)
+        .expect(rt, "memory");
+    (map.size(), gate.was_met())
 }
 
-fn reduced<R: Threads + Sync>(rt: &R, alloc: Global) -> Result<(u64, bool), NoMemory> {
-    let a = map_of(rt, alloc, 2)?;
+fn reduced<
+    R: Threads + Abort + Sync,
+    A: Augment<Key = u64, Val = u64> + SyncAugment,
+    L: Leaf<u64, u64> + Send + Sync,
+>(rt: &R, alloc: Global, a: &Map<A, L, 32>) -> (u64, bool) {
     let gate = Meeting::new();
-    let count = a.map_reduce(rt, alloc, &gate, Cut::new(2, 1), &Every)?;
-    Ok((count, gate.was_met()))
+    let count = a
+        .map_reduce(rt, alloc, &gate, Cut::new(2, 1), &Every)
+        .expect(rt, "memory");
+    (count, gate.was_met())
+}
+
+/// Asserts that the halves of the calls on these maps meet.
+fn assert_halves_of<
+    R: Threads + Abort + Sync,
+    A: Augment<Key = u64, Val = u64> + SyncAugment,
+    L: Leaf<u64, u64> + Send + Sync,
+>(rt: &R, alloc: Global, a: &Map<A, L, 32>, b: &Map<A, L, 32>) {
+    assert_eq!(rt; intersected(rt, alloc, a, b), (10_000, true));
+    assert_eq!(rt; subtracted(rt, alloc, a, b), (20_000, true));
+    assert_eq!(rt; filtered(rt, alloc, a), (30_000, true));
+    assert_eq!(rt; reduced(rt, alloc, a), (30_000, true));
+}
+
+/// Asserts that the halves of each call meet.
+fn assert_halves_meet<
+    R: Threads + Abort + Sync,
+    A: Augment<Key = u64, Val = u64> + SyncAugment,
+    L: IntoEntries<u64, u64> + Send + Sync,
+>(rt: &R, alloc: Global) {
+    assert_eq!(rt; built::<R, A, L>(rt, alloc), (30_000, true));
+    let a = map_of::<R, A, L>(rt, alloc, 2);
+    let b = map_of::<R, A, L>(rt, alloc, 3);
+    assert_halves_of(rt, alloc, &a, &b);
+    assert_eq!(rt; united_into(rt, alloc, a, &b), (40_000, true));
 }
 
 #[test]
-fn the_halves_of_each_call_meet(rt: HostRuntime) -> Result<(), Fail> {
-    assert_eq!(rt; built(&rt, rt.alloc())?, (30_000, true));
-    assert_eq!(rt; united_into(&rt, rt.alloc())?, (40_000, true));
-    assert_eq!(rt; intersected(&rt, rt.alloc())?, (10_000, true));
-    assert_eq!(rt; subtracted(&rt, rt.alloc())?, (20_000, true));
-    assert_eq!(rt; filtered(&rt, rt.alloc())?, (30_000, true));
-    assert_eq!(rt; reduced(&rt, rt.alloc())?, (30_000, true));
-    Ok(())
+fn the_halves_of_each_call_meet(rt: HostRuntime) {
+    assert_halves_meet::<HostRuntime, SumMax<u64>, PlainLeaf<u64, u64>>(&rt, rt.alloc());
 }

@@ -2,81 +2,89 @@
 ghost use Rattle.std.specs.Prelude.{◌≡◌, ◌<◌};
 ghost use Rattle.map_model.specs.Balance.{IsBlockSize};
 
-use crate::changes::{Tally, evens};
+use crate::changes::{Block, evens};
 use crate::counted::Counted;
+use crate::sums::Sums;
 use crate::work::Work;
 use aug_map::{Map, MapOver};
-use aug_monoid::{First, NoMemory, Steps, SumMax};
+use aug_monoid::{Augment, First, Leaf, LeafMut, Steps, SumMax, SyncAugment};
 use fork_join::{Cut, FreeGate, Gate};
 use leaf_blocks::PlainLeaf;
 use std::alloc::Global;
-use std::marker::{Brand, Sync};
+use std::marker::{Brand, Send, Sync};
+use std::process::Abort;
 use std::sync::atomic::{AtomicU64, Ordering};
 use std::sync::ledger::{Blank, Ledger};
-use std::test::Fail;
 use std::thread::Threads;
+
+type Tally<'a, const B: usize> = Map<Sums<'a>, Block<'a>, B>;
 
 /// How many entries the small map has.
 const FEW: u64 = 16;
 
 /// A map of `FEW` odd numbers, far from one another.
-fn few<'a, const B: usize, C: Ledger>(
-    alloc: Global,
-    work: &'a Work,
-    steps: &mut Steps<C>,
-) -> Result<Tally<'a, B>, NoMemory>
+fn few<
+    'a,
+    R: Abort,
+    A: Augment<Key = Counted<'a>, Val = u64>,
+    L: LeafMut<Counted<'a>, u64>,
+    const B: usize,
+    C: Ledger,
+>(rt: &R, alloc: Global, work: &'a Work, steps: &mut Steps<C>) -> Map<A, L, B>
     requires { IsBlockSize B }
 {
-    let mut map: Tally<'a, B> = MapOver::empty();
+    let mut map: Map<A, L, B> = MapOver::empty();
     for place in 0..FEW {
-        map.put_mut(alloc, Counted::new(512 * place + 1, work), place, steps)?;
+        map.put_mut(alloc, Counted::new(512 * place + 1, work), place, steps)
+            .expect(rt, "put");
     }
-    Ok(map)
+    map
 }
 
 /// Whether a union shares, for each entry of the small map, no more keys than a block has, and two for each node above it.
-fn shares_few_in<const B: usize, C: Ledger, R: Threads + Sync>(
+fn shares_few_in<R: Threads + Abort + Sync, const B: usize, C: Ledger>(
     rt: &R,
     alloc: Global,
     steps: &mut Steps<C>,
-) -> Result<bool, NoMemory>
+) -> bool
     requires size { IsBlockSize B }
 {
     let work = Work::new();
-    let many = evens::<B, C>(alloc, &work, steps)?;
-    let few = few::<B, C>(alloc, &work, steps)?;
+    let many: Tally<'_, B> = evens(rt, alloc, &work, steps);
+    let few: Tally<'_, B> = few(rt, alloc, &work, steps);
     work.take();
-    let united = many.union(rt, alloc, &FreeGate, Cut::new(1, 1), &few, &First)?;
+    let united = many
+        .union(rt, alloc, &FreeGate, Cut::new(1, 1), &few, &First)
+        .expect(rt, "memory");
     let shared = work.take().shared;
     let path = united.height() as u64 + 1;
-    Ok(shared <= FEW * 2 * (B as u64 + path))
+    shared <= FEW * 2 * (B as u64 + path)
 }
 
 /// The same for blocks of 1, 2 and 32 entries.
-fn shares_few_counted<R: Threads + Sync, C: Ledger>(
+fn shares_few_counted<R: Threads + Abort + Sync, C: Ledger>(
     rt: &R,
     alloc: Global,
     blank: Blank,
-) -> Result<[bool; 3], NoMemory>
+) -> [bool; 3]
     requires name { blank.name ≡ C.name }
     requires parts { blank.parts ≡ C.parts }
     requires some { 0 < blank.parts }
 {
     let mut steps = Steps::<C>::start(blank);
-    let one = shares_few_in::<1, C, R>(rt, alloc, &mut steps)?;
-    let two = shares_few_in::<2, C, R>(rt, alloc, &mut steps)?;
-    let many = shares_few_in::<32, C, R>(rt, alloc, &mut steps)?;
-    Ok([one, two, many])
+    let one = shares_few_in::<R, 1, C>(rt, alloc, &mut steps);
+    let two = shares_few_in::<R, 2, C>(rt, alloc, &mut steps);
+    let many = shares_few_in::<R, 32, C>(rt, alloc, &mut steps);
+    [one, two, many]
 }
 
-fn shares_few<R: Threads + Sync>(rt: &R, alloc: Global) -> Result<[bool; 3], NoMemory> {
+fn shares_few<R: Threads + Abort + Sync>(rt: &R, alloc: Global) -> [bool; 3] {
     shares_few_counted::<R, Brand>(rt, alloc, Blank::new(1))
 }
 
 #[test]
-fn a_small_union_shares_a_path_for_each_entry(rt: HostRuntime) -> Result<(), Fail> {
-    assert_eq!(rt; shares_few(&rt, rt.alloc())?, [true; 3]);
-    Ok(())
+fn a_small_union_shares_a_path_for_each_entry(rt: HostRuntime) {
+    assert_eq!(rt; shares_few(&rt, rt.alloc()), [true; 3]);
 }
 
 /// A gate that counts how often it is entered.
@@ -91,33 +99,42 @@ impl Gate for Entered {
     }
 }
 
-type Sums = Map<SumMax<u64>, PlainLeaf<u64, u64>, 32>;
-
 /// Each number below `end` that `step` divides, with itself as value.
-fn multiples(alloc: Global, step: u64, end: u64) -> Result<Sums, NoMemory> {
+fn multiples<R: Abort, A: Augment<Key = u64, Val = u64>, L: Leaf<u64, u64>>(
+    rt: &R,
+    alloc: Global,
+    step: u64,
+    end: u64,
+) -> Map<A, L, 32> {
     let mut pairs = Vec::new(alloc);
     for key in 0..end {
         if key.is_multiple_of(step) {
-            pairs.push((key, key))?;
+            pairs.push((key, key)).expect(rt, "memory");
         }
     }
-    MapOver::build_alone(alloc, &pairs)
+    MapOver::build_alone(alloc, &pairs).expect(rt, "memory")
 }
 
 /// The size of the union with a map in a sixteenth of the other's range, and how often the gate was entered: by both halves of 15 forks,
 /// where each of sixteen workers has a part.
-fn narrow<R: Threads + Sync>(rt: &R, alloc: Global) -> Result<(u64, u64), NoMemory> {
-    let wide = multiples(alloc, 2, 320_000)?;
-    let narrow = multiples(alloc, 3, 20_000)?;
+fn narrow<
+    R: Threads + Abort + Sync,
+    A: Augment<Key = u64, Val = u64> + SyncAugment,
+    L: Leaf<u64, u64> + Send + Sync,
+>(rt: &R, alloc: Global) -> (u64, u64) {
+    let wide = multiples::<R, A, L>(rt, alloc, 2, 320_000);
+    let narrow = multiples::<R, A, L>(rt, alloc, 3, 20_000);
     let gate = Entered {
         times: AtomicU64::new(0),
     };
-    let united = wide.union(rt, alloc, &gate, Cut::new(16, 1), &narrow, &First)?;
-    Ok((united.size(), gate.times.load(Ordering::SeqCst)))
+    let united = wide
+        .union(rt, alloc, &gate, Cut::new(16, 1), &narrow, &First)
+        .expect(rt, "memory");
+    (united.size(), gate.times.load(Ordering::SeqCst))
 }
 
 #[test]
-fn a_union_with_a_narrow_map_forks_where_that_is(rt: HostRuntime) -> Result<(), Fail> {
-    assert_eq!(rt; narrow(&rt, rt.alloc())?, (163_333, 30));
-    Ok(())
+fn a_union_with_a_narrow_map_forks_where_that_is(rt: HostRuntime) {
+    let taken = narrow::<HostRuntime, SumMax<u64>, PlainLeaf<u64, u64>>(&rt, rt.alloc());
+    assert_eq!(rt; taken, (163_333, 30));
 }

@@ -2,59 +2,79 @@
 ghost use Rattle.std.specs.Prelude.{◌≡◌, ◌<◌};
 ghost use Rattle.map_model.specs.Balance.{IsBlockSize};
 
-use crate::changes::{ENTRIES, Tally, evens};
+use crate::changes::{Block, ENTRIES, evens};
+use crate::counted::Counted;
+use crate::sums::Sums;
 use crate::work::Work;
-use aug_monoid::{NoMemory, Steps};
+use aug_map::Map;
+use aug_monoid::{Augment, Leaf, LeafMut, Steps};
 use std::alloc::Global;
 use std::marker::Brand;
+use std::process::Abort;
 use std::sync::ledger::{Blank, Ledger};
-use std::test::Fail;
 
 /// How many entries a cursor gives.
-fn count_of<'a, const B: usize>(alloc: Global, map: &Tally<'a, B>) -> Result<u64, NoMemory> {
+fn count_of<R: Abort, A: Augment, L: Leaf<A::Key, A::Val>, const B: usize>(
+    rt: &R,
+    alloc: Global,
+    map: &Map<A, L, B>,
+) -> u64 {
     let mut count: u64 = 0;
     for entry in map.cursor(alloc) {
-        entry?;
+        entry.expect(rt, "entry");
         count = count.saturating_add(1);
     }
-    Ok(count)
+    count
 }
 
 /// Whether a walk gives every entry, shares each key once and compares none.
-fn shares_each_in<const B: usize, C: Ledger>(
-    alloc: Global,
-    steps: &mut Steps<C>,
-) -> Result<bool, NoMemory>
+fn shares_each_in<
+    'a,
+    R: Abort,
+    A: Augment<Key = Counted<'a>, Val = u64>,
+    L: LeafMut<Counted<'a>, u64>,
+    const B: usize,
+    C: Ledger,
+>(rt: &R, alloc: Global, work: &'a Work, steps: &mut Steps<C>) -> bool
     requires size { IsBlockSize B }
 {
-    let work = Work::new();
-    let map = evens::<B, C>(alloc, &work, steps)?;
+    let map = evens::<R, A, L, B, C>(rt, alloc, work, steps);
     work.take();
-    let count = count_of(alloc, &map)?;
+    let count = count_of(rt, alloc, &map);
     let taken = work.take();
-    Ok(count == ENTRIES && taken.shared == ENTRIES && taken.compared == 0)
+    count == ENTRIES && taken.shared == ENTRIES && taken.compared == 0
 }
 
 /// The same for blocks of 1, 2 and 32 entries.
-fn shares_each_counted<C: Ledger>(alloc: Global, blank: Blank) -> Result<[bool; 3], NoMemory>
+fn shares_each_at_sizes<
+    'a,
+    R: Abort,
+    A: Augment<Key = Counted<'a>, Val = u64>,
+    L: LeafMut<Counted<'a>, u64>,
+    C: Ledger,
+>(rt: &R, alloc: Global, work: &'a Work, steps: &mut Steps<C>) -> [bool; 3] {
+    let one = shares_each_in::<R, A, L, 1, C>(rt, alloc, work, steps);
+    let two = shares_each_in::<R, A, L, 2, C>(rt, alloc, work, steps);
+    let many = shares_each_in::<R, A, L, 32, C>(rt, alloc, work, steps);
+    [one, two, many]
+}
+
+fn shares_each_counted<R: Abort, C: Ledger>(rt: &R, alloc: Global, blank: Blank) -> [bool; 3]
     requires name { blank.name ≡ C.name }
     requires parts { blank.parts ≡ C.parts }
     requires some { 0 < blank.parts }
 {
     let mut steps = Steps::<C>::start(blank);
-    let one = shares_each_in::<1, C>(alloc, &mut steps)?;
-    let two = shares_each_in::<2, C>(alloc, &mut steps)?;
-    let many = shares_each_in::<32, C>(alloc, &mut steps)?;
-    Ok([one, two, many])
+    let work = Work::new();
+    shares_each_at_sizes::<R, Sums<'_>, Block<'_>, C>(rt, alloc, &work, &mut steps)
 }
 
-fn shares_each(alloc: Global) -> Result<[bool; 3], NoMemory> {
-    shares_each_counted::<Brand>(alloc, Blank::new(1))
+fn shares_each<R: Abort>(rt: &R, alloc: Global) -> [bool; 3] {
+    shares_each_counted::<R, Brand>(rt, alloc, Blank::new(1))
 }
 
 // A cursor that looked for the next block by its first key would compare keys for each.
 #[test]
-fn a_walk_compares_no_keys_and_shares_each_once(rt: HostRuntime) -> Result<(), Fail> {
-    assert_eq!(rt; shares_each(rt.alloc())?, [true; 3]);
-    Ok(())
+fn a_walk_compares_no_keys_and_shares_each_once(rt: HostRuntime) {
+    assert_eq!(rt; shares_each(&rt, rt.alloc()), [true; 3]);
 }
