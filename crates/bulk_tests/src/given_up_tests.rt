@@ -3,7 +3,7 @@ ghost use Rattle.std.specs.Ordering.{nat_cmp};
 ghost use Rattle.map_model.specs.Balance.{IsBlockSize};
 ghost use Rattle.map_model.specs.Entries.{IsIncreasing};
 
-use crate::runs::{Multiples, Sums, SumsOver, assert_has, assert_made, multiples_of};
+use crate::runs::{Multiples, Sums, assert_has, assert_made, multiples_of};
 use aug_monoid::{First, Leaf, NoMemory, Share};
 use bulk_changes::{IntoEntries, union_into, union_into_alone};
 use diff_leaf::DiffLeaf;
@@ -15,7 +15,11 @@ use std::process::Abort;
 use std::thread::Threads;
 
 // The entries of a map.
-fn entries_of<R: Abort, const B: usize>(rt: &R, alloc: Global, tree: &Sums<B>) -> Vec<(u64, u64)>
+fn entries_of<R: Abort, L: Leaf<u64, u64>, const B: usize>(
+    rt: &R,
+    alloc: Global,
+    tree: &Sums<L, B>,
+) -> Vec<(u64, u64)>
     ensures { IsIncreasing nat_cmp result.items }
 {
     let _size = tree.size(); // for the proof alone: keys rise
@@ -40,9 +44,9 @@ fn union_by<R: Threads + Sync, L: IntoEntries<u64, u64> + Send + Sync, const B: 
     rt: &R,
     alloc: Global,
     cut: Option<Cut>,
-    tree: SumsOver<L, B>,
+    tree: Sums<L, B>,
     list: &[(u64, u64)],
-) -> Result<SumsOver<L, B>, NoMemory>
+) -> Result<Sums<L, B>, NoMemory>
     requires { IsIncreasing nat_cmp list.now }
 {
     match cut {

@@ -4,13 +4,13 @@ ghost use Rattle.std.proofs.Common.{arith};
 ghost use Rattle.map_model.specs.Balance.{IsBlockSize};
 
 use crate::runs::assert_has;
-use aug_monoid::{Augment, First, NoMemory, Steps, Test};
+use aug_monoid::{Augment, First, Leaf, NoMemory, Steps, Test};
 use batch_ops::build;
 use bulk_ops::{filter, union};
 use fork_join::{Cut, FreeGate};
 use leaf_blocks::PlainLeaf;
 use std::alloc::Global;
-use std::marker::Sync;
+use std::marker::{Send, Sync};
 use std::process::Abort;
 use std::sync::ledger::Ledger;
 use std::thread::Threads;
@@ -71,7 +71,7 @@ impl Augment for OtherSums {
     }
 }
 
-type Capped<const B: usize> = Tree<OtherSums, PlainLeaf<u64, u64>, B>;
+type Capped<L, const B: usize> = Tree<OtherSums, L, B>;
 
 #[derive(Drop)]
 struct KeyBelow {
@@ -97,32 +97,38 @@ fn ones<R: Abort>(rt: &R, alloc: Global, from: u64, end: u64) -> Vec<(u64, u64)>
     pairs
 }
 
-fn built<R: Threads + Abort + Sync, const B: usize>(
+fn built<R: Threads + Abort + Sync, L: Leaf<u64, u64> + Send + Sync, const B: usize>(
     rt: &R,
     alloc: Global,
     pairs: &[(u64, u64)],
-) -> Result<Capped<B>, NoMemory>
+) -> Result<Capped<L, B>, NoMemory>
     requires { IsBlockSize B }
 {
     build(rt, alloc, &FreeGate, Cut::new(4, 1), pairs)
 }
 
 // Asserts that a build is refused.
-fn assert_build_refused<R: Threads + Abort + Sync, const B: usize>(rt: &R, alloc: Global)
+fn assert_build_refused<R: Threads + Abort + Sync, L: Leaf<u64, u64> + Send + Sync, const B: usize>(
+    rt: &R,
+    alloc: Global,
+)
     requires { IsBlockSize B }
 {
     let pairs = ones(rt, alloc, 0, 1000);
-    assert!(rt; built::<R, B>(rt, alloc, &pairs).is_err());
+    assert!(rt; built::<R, L, B>(rt, alloc, &pairs).is_err());
 }
 
 // Asserts that a union is refused, and leaves its maps.
-fn assert_union_refused<R: Threads + Abort + Sync, const B: usize>(rt: &R, alloc: Global)
+fn assert_union_refused<R: Threads + Abort + Sync, L: Leaf<u64, u64> + Send + Sync, const B: usize>(
+    rt: &R,
+    alloc: Global,
+)
     requires { IsBlockSize B }
 {
     let low = ones(rt, alloc, 0, 500);
     let high = ones(rt, alloc, 500, 1000);
-    let a = built::<R, B>(rt, alloc, &low).expect(rt, "memory");
-    let b = built::<R, B>(rt, alloc, &high).expect(rt, "memory");
+    let a = built::<R, L, B>(rt, alloc, &low).expect(rt, "memory");
+    let b = built::<R, L, B>(rt, alloc, &high).expect(rt, "memory");
     let cut = Cut::new(4, 1);
     assert!(rt; union(rt, alloc, &FreeGate, cut, &a, &b, &First).is_err());
     assert_has(rt, alloc, &a, &low);
@@ -130,27 +136,42 @@ fn assert_union_refused<R: Threads + Abort + Sync, const B: usize>(rt: &R, alloc
 }
 
 // Asserts that a filter by keys below 1000 is refused, and leaves its map.
-fn assert_filter_refused<R: Threads + Abort + Sync, const B: usize>(rt: &R, alloc: Global)
+fn assert_filter_refused<
+    R: Threads + Abort + Sync,
+    L: Leaf<u64, u64> + Send + Sync,
+    const B: usize,
+>(rt: &R, alloc: Global)
     requires { IsBlockSize B }
 {
     let pairs = ones(rt, alloc, 0, 1001);
-    let tree = built::<R, B>(rt, alloc, &pairs).expect(rt, "memory");
+    let tree = built::<R, L, B>(rt, alloc, &pairs).expect(rt, "memory");
     let below = KeyBelow { limit: 1000 };
     assert!(rt; filter(rt, alloc, &FreeGate, Cut::new(4, 1), &tree, &below).is_err());
     assert_has(rt, alloc, &tree, &pairs);
 }
 
 // Asserts that a build, a union and a filter are refused where the sum is 1000, and leave their arguments.
-fn assert_refusals<R: Threads + Abort + Sync, const B: usize>(rt: &R, alloc: Global)
+fn assert_refusals<R: Threads + Abort + Sync, L: Leaf<u64, u64> + Send + Sync, const B: usize>(
+    rt: &R,
+    alloc: Global,
+)
     requires { IsBlockSize B }
 {
-    assert_build_refused::<R, B>(rt, alloc);
-    assert_union_refused::<R, B>(rt, alloc);
-    assert_filter_refused::<R, B>(rt, alloc);
+    assert_build_refused::<R, L, B>(rt, alloc);
+    assert_union_refused::<R, L, B>(rt, alloc);
+    assert_filter_refused::<R, L, B>(rt, alloc);
+}
+
+// The same in blocks of two sizes.
+fn assert_all_refusals<R: Threads + Abort + Sync, L: Leaf<u64, u64> + Send + Sync>(
+    rt: &R,
+    alloc: Global,
+) {
+    assert_refusals::<R, L, 1>(rt, alloc);
+    assert_refusals::<R, L, 32>(rt, alloc);
 }
 
 #[test]
 fn a_sum_of_1000_is_refused(rt: HostRuntime) {
-    assert_refusals::<HostRuntime, 1>(&rt, rt.alloc());
-    assert_refusals::<HostRuntime, 32>(&rt, rt.alloc());
+    assert_all_refusals::<HostRuntime, PlainLeaf<u64, u64>>(&rt, rt.alloc());
 }

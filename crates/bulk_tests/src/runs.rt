@@ -4,16 +4,13 @@ ghost use Rattle.map_model.specs.Balance.{IsBlockSize};
 use aug_monoid::{Augment, Leaf, NoMemory, SumMax};
 use batch_ops::{build, build_alone};
 use fork_join::{Cut, FreeGate};
-use leaf_blocks::PlainLeaf;
 use std::alloc::Global;
-use std::marker::Sync;
+use std::marker::{Send, Sync};
 use std::process::Abort;
 use std::thread::Threads;
 use tree_base::Tree;
 
-pub(crate) type SumsOver<L, const B: usize> = Tree<SumMax<u64>, L, B>;
-
-pub(crate) type Sums<const B: usize> = SumsOver<PlainLeaf<u64, u64>, B>;
+pub(crate) type Sums<L, const B: usize> = Tree<SumMax<u64>, L, B>;
 
 /// The multiples of a step from a number on and below another.
 #[derive(Clone, Copy, Debug)]
@@ -49,12 +46,12 @@ impl Multiples {
     }
 
     /// The map of the multiples.
-    pub(crate) fn tree<R: Threads + Abort + Sync, const B: usize>(
+    pub(crate) fn tree<R: Threads + Abort + Sync, L: Leaf<u64, u64> + Send + Sync, const B: usize>(
         self,
         rt: &R,
         alloc: Global,
         cut: Cut,
-    ) -> Sums<B>
+    ) -> Sums<L, B>
         requires { IsBlockSize B }
     {
         let pairs = self.falling(rt, alloc);
@@ -66,7 +63,7 @@ impl Multiples {
         self,
         rt: &R,
         alloc: Global,
-    ) -> SumsOver<L, B>
+    ) -> Sums<L, B>
         requires { IsBlockSize B }
     {
         let pairs = self.falling(rt, alloc);
@@ -90,7 +87,7 @@ pub(crate) fn assert_has<
 pub(crate) fn assert_made<R: Abort, L: Leaf<u64, u64>, const B: usize>(
     rt: &R,
     alloc: Global,
-    tree: Result<SumsOver<L, B>, NoMemory>,
+    tree: Result<Sums<L, B>, NoMemory>,
     wanted: &[(u64, u64)],
 ) {
     assert_has(rt, alloc, &tree.expect(rt, "memory"), wanted);

@@ -2,18 +2,20 @@
 ghost use Rattle.map_model.specs.Balance.{IsBlockSize};
 
 use crate::runs::{Multiples, Sums, assert_has, assert_made, multiples_of};
-use aug_monoid::{First, NoMemory, Reduce, Second, Share, Test};
+use aug_monoid::{First, Leaf, NoMemory, Reduce, Second, Share, Test};
 use batch_ops::{
     build, build_alone, multi_del, multi_del_alone, multi_put, multi_put_alone, multi_put_into,
     multi_put_into_alone,
 };
+use bulk_changes::IntoEntries;
 use bulk_ops::{
     difference, difference_alone, filter, filter_alone, intersect, intersect_alone, map_reduce,
     map_reduce_alone, union, union_alone,
 };
 use fork_join::{Cut, FreeGate};
+use leaf_blocks::PlainLeaf;
 use std::alloc::Global;
-use std::marker::Sync;
+use std::marker::{Send, Sync};
 use std::process::Abort;
 use std::thread::Threads;
 
@@ -56,14 +58,14 @@ fn wanted<R: Abort>(
 }
 
 // The map that the call answers.
-fn answer_of<R: Threads + Sync, const B: usize>(
+fn answer_of<R: Threads + Sync, L: Leaf<u64, u64> + Send + Sync, const B: usize>(
     rt: &R,
     alloc: Global,
     cut: Cut,
     call: Combined,
-    a: &Sums<B>,
-    b: &Sums<B>,
-) -> Result<Sums<B>, NoMemory>
+    a: &Sums<L, B>,
+    b: &Sums<L, B>,
+) -> Result<Sums<L, B>, NoMemory>
     requires { IsBlockSize B }
 {
     match call {
@@ -77,7 +79,7 @@ fn answer_of<R: Threads + Sync, const B: usize>(
 }
 
 // Asserts that the call answers these entries.
-fn assert_answer<R: Threads + Abort + Sync, const B: usize>(
+fn assert_answer<R: Threads + Abort + Sync, L: Leaf<u64, u64> + Send + Sync, const B: usize>(
     rt: &R,
     alloc: Global,
     cut: Cut,
@@ -88,8 +90,8 @@ fn assert_answer<R: Threads + Abort + Sync, const B: usize>(
 )
     requires { IsBlockSize B }
 {
-    let first = a.tree::<R, B>(rt, alloc, cut);
-    let second = b.tree::<R, B>(rt, alloc, cut);
+    let first = a.tree::<R, L, B>(rt, alloc, cut);
+    let second = b.tree::<R, L, B>(rt, alloc, cut);
     assert_made(
         rt,
         alloc,
@@ -99,7 +101,7 @@ fn assert_answer<R: Threads + Abort + Sync, const B: usize>(
 }
 
 // Asserts that the call answers what is wanted, in blocks of three sizes.
-fn assert_answers<R: Threads + Abort + Sync>(
+fn assert_answers<R: Threads + Abort + Sync, L: Leaf<u64, u64> + Send + Sync>(
     rt: &R,
     alloc: Global,
     cut: Cut,
@@ -108,9 +110,9 @@ fn assert_answers<R: Threads + Abort + Sync>(
     b: Multiples,
 ) {
     let entries = wanted(rt, alloc, call, a, b);
-    assert_answer::<R, 1>(rt, alloc, cut, call, a, b, &entries);
-    assert_answer::<R, 2>(rt, alloc, cut, call, a, b, &entries);
-    assert_answer::<R, 32>(rt, alloc, cut, call, a, b, &entries);
+    assert_answer::<R, L, 1>(rt, alloc, cut, call, a, b, &entries);
+    assert_answer::<R, L, 2>(rt, alloc, cut, call, a, b, &entries);
+    assert_answer::<R, L, 32>(rt, alloc, cut, call, a, b, &entries);
 }
 
 const CALLS: &[Combined] = &[
@@ -123,7 +125,7 @@ const CALLS: &[Combined] = &[
 ];
 
 // Asserts what each call answers.
-fn assert_calls<R: Threads + Abort + Sync>(
+fn assert_calls<R: Threads + Abort + Sync, L: Leaf<u64, u64> + Send + Sync>(
     rt: &R,
     alloc: Global,
     cut: Cut,
@@ -131,15 +133,20 @@ fn assert_calls<R: Threads + Abort + Sync>(
     b: Multiples,
 ) {
     for call in CALLS {
-        assert_answers(rt, alloc, cut, *call, a, b);
+        assert_answers::<R, L>(rt, alloc, cut, *call, a, b);
     }
 }
 
 // Asserts what each call answers, on one worker, on four and on 64.
-fn assert_cuts<R: Threads + Abort + Sync>(rt: &R, alloc: Global, a: Multiples, b: Multiples) {
-    assert_calls(rt, alloc, Cut::new(1, 1), a, b);
-    assert_calls(rt, alloc, Cut::new(4, 1), a, b);
-    assert_calls(rt, alloc, Cut::new(64, 1), a, b);
+fn assert_cuts<R: Threads + Abort + Sync, L: Leaf<u64, u64> + Send + Sync>(
+    rt: &R,
+    alloc: Global,
+    a: Multiples,
+    b: Multiples,
+) {
+    assert_calls::<R, L>(rt, alloc, Cut::new(1, 1), a, b);
+    assert_calls::<R, L>(rt, alloc, Cut::new(4, 1), a, b);
+    assert_calls::<R, L>(rt, alloc, Cut::new(64, 1), a, b);
 }
 
 #[test]
@@ -155,7 +162,7 @@ fn two_maps_are_combined_key_by_key(rt: HostRuntime) {
         (evens, none),
         (none, evens),
     ] {
-        assert_cuts(&rt, rt.alloc(), a, b);
+        assert_cuts::<HostRuntime, PlainLeaf<u64, u64>>(&rt, rt.alloc(), a, b);
     }
 }
 
@@ -172,9 +179,12 @@ const KEYS: &[u64] = &[9, 5, 0, 3, 5];
 const AFTER_DELS: &[(u64, u64)] = &[(1, 10), (4, 41)];
 
 // Asserts what a map is that is built, put to and taken from.
-fn assert_batches<R: Threads + Abort + Sync>(rt: &R, alloc: Global) {
+fn assert_batches<R: Threads + Abort + Sync, L: Leaf<u64, u64> + Send + Sync>(
+    rt: &R,
+    alloc: Global,
+) {
     let cut = Cut::new(2, 1);
-    let built: Result<Sums<2>, NoMemory> = build(rt, alloc, &FreeGate, cut, PAIRS);
+    let built: Result<Sums<L, 2>, NoMemory> = build(rt, alloc, &FreeGate, cut, PAIRS);
     let built = built.expect(rt, "memory");
     assert_has(rt, alloc, &built, BUILT);
     let put = multi_put(rt, alloc, &FreeGate, cut, &built, PUTS).expect(rt, "memory");
@@ -184,8 +194,8 @@ fn assert_batches<R: Threads + Abort + Sync>(rt: &R, alloc: Global) {
 }
 
 // The same on one thread.
-fn assert_batches_alone<R: Abort>(rt: &R, alloc: Global) {
-    let built: Result<Sums<2>, NoMemory> = build_alone(alloc, PAIRS);
+fn assert_batches_alone<R: Abort, L: Leaf<u64, u64>>(rt: &R, alloc: Global) {
+    let built: Result<Sums<L, 2>, NoMemory> = build_alone(alloc, PAIRS);
     let built = built.expect(rt, "memory");
     assert_has(rt, alloc, &built, BUILT);
     let put = multi_put_alone(alloc, &built, PUTS).expect(rt, "memory");
@@ -194,8 +204,11 @@ fn assert_batches_alone<R: Abort>(rt: &R, alloc: Global) {
 }
 
 // Asserts what a map that is given up is after puts, first while it has another owner, which keeps its entries.
-fn assert_put_into<R: Threads + Abort + Sync>(rt: &R, alloc: Global) {
-    let built: Result<Sums<2>, NoMemory> = build_alone(alloc, PAIRS);
+fn assert_put_into<R: Threads + Abort + Sync, L: IntoEntries<u64, u64> + Send + Sync>(
+    rt: &R,
+    alloc: Global,
+) {
+    let built: Result<Sums<L, 2>, NoMemory> = build_alone(alloc, PAIRS);
     let built = built.expect(rt, "memory");
     let copy = built.share(alloc).expect(rt, "memory");
     let put = multi_put_into(rt, alloc, &FreeGate, Cut::new(2, 1), built, PUTS);
@@ -209,11 +222,19 @@ fn assert_put_into<R: Threads + Abort + Sync>(rt: &R, alloc: Global) {
     );
 }
 
+// All three in blocks of a kind.
+fn assert_later_wins<R: Threads + Abort + Sync, L: IntoEntries<u64, u64> + Send + Sync>(
+    rt: &R,
+    alloc: Global,
+) {
+    assert_batches::<R, L>(rt, alloc);
+    assert_batches_alone::<R, L>(rt, alloc);
+    assert_put_into::<R, L>(rt, alloc);
+}
+
 #[test]
 fn a_later_pair_of_a_key_wins(rt: HostRuntime) {
-    assert_batches(&rt, rt.alloc());
-    assert_batches_alone(&rt, rt.alloc());
-    assert_put_into(&rt, rt.alloc());
+    assert_later_wins::<HostRuntime, PlainLeaf<u64, u64>>(&rt, rt.alloc());
 }
 
 #[derive(Drop)]
@@ -272,13 +293,13 @@ impl Reduce<u64, u64> for KeySum {
 }
 
 // How many of the first thousand keys are below a limit, and their sum.
-fn filtered_sum<R: Threads + Abort + Sync>(
+fn filtered_sum<R: Threads + Abort + Sync, L: Leaf<u64, u64> + Send + Sync>(
     rt: &R,
     alloc: Global,
     cut: Cut,
     limit: u64,
 ) -> (u64, u64) {
-    let all = multiples_of(1, 0, 1000).tree::<R, 2>(rt, alloc, cut);
+    let all = multiples_of(1, 0, 1000).tree::<R, L, 2>(rt, alloc, cut);
     let below = KeyBelow { limit };
     let part = filter(rt, alloc, &FreeGate, cut, &all, &below).expect(rt, "memory");
     let sum = map_reduce(rt, alloc, &FreeGate, cut, &part, &KeySum).expect(rt, "memory");
@@ -286,32 +307,37 @@ fn filtered_sum<R: Threads + Abort + Sync>(
 }
 
 // The same on one thread.
-fn filtered_sum_alone<R: Threads + Abort + Sync>(
+fn filtered_sum_alone<R: Threads + Abort + Sync, L: Leaf<u64, u64> + Send + Sync>(
     rt: &R,
     alloc: Global,
     cut: Cut,
     limit: u64,
 ) -> (u64, u64) {
-    let all = multiples_of(1, 0, 1000).tree::<R, 2>(rt, alloc, cut);
+    let all = multiples_of(1, 0, 1000).tree::<R, L, 2>(rt, alloc, cut);
     let part = filter_alone(alloc, &all, &KeyBelow { limit }).expect(rt, "memory");
     let sum = map_reduce_alone(alloc, &part, &KeySum).expect(rt, "memory");
     (part.size(), sum)
 }
 
-fn assert_filtered<R: Threads + Abort + Sync>(
+fn assert_filtered<R: Threads + Abort + Sync, L: Leaf<u64, u64> + Send + Sync>(
     rt: &R,
     alloc: Global,
     cut: Cut,
     limit: u64,
     wanted: (u64, u64),
 ) {
-    assert_eq!(rt; filtered_sum(rt, alloc, cut, limit), wanted);
-    assert_eq!(rt; filtered_sum_alone(rt, alloc, cut, limit), wanted);
+    assert_eq!(rt; filtered_sum::<R, L>(rt, alloc, cut, limit), wanted);
+    assert_eq!(rt; filtered_sum_alone::<R, L>(rt, alloc, cut, limit), wanted);
+}
+
+// Asserts what some filters leave.
+fn assert_parts<R: Threads + Abort + Sync, L: Leaf<u64, u64> + Send + Sync>(rt: &R, alloc: Global) {
+    assert_filtered::<R, L>(rt, alloc, Cut::new(1, 1), 0, (0, 0));
+    assert_filtered::<R, L>(rt, alloc, Cut::new(4, 1), 100, (100, 4950));
+    assert_filtered::<R, L>(rt, alloc, Cut::new(64, 1), 1000, (1000, 499_500));
 }
 
 #[test]
 fn a_part_is_filtered_and_summed(rt: HostRuntime) {
-    assert_filtered(&rt, rt.alloc(), Cut::new(1, 1), 0, (0, 0));
-    assert_filtered(&rt, rt.alloc(), Cut::new(4, 1), 100, (100, 4950));
-    assert_filtered(&rt, rt.alloc(), Cut::new(64, 1), 1000, (1000, 499_500));
+    assert_parts::<HostRuntime, PlainLeaf<u64, u64>>(&rt, rt.alloc());
 }

@@ -1,0 +1,7 @@
+use Rattle.bulk_tests.proofs.refusal_tests.assert_build_refused.Goals as goal
+
+pub built-requires-sync-L : goal.built-requires-sync-L
+built-requires-sync-L g c κs within = record { shared = c.type_bounds.sync-L.shared }
+
+pub built-requires-sync-R : goal.built-requires-sync-R
+built-requires-sync-R g c κs within = record { shared = c.type_bounds.sync-R.shared }
