@@ -79,7 +79,8 @@ fn changes_in<
     let most = most_by_copy(rt, alloc, &map, work, steps);
     let levels = map.height() as u64 + 1;
     let block = B as u64 + 2;
-    let is_within = most.compared <= levels + 18 && most.combined <= 64 * levels * block;
+    let is_within = most.compared <= levels + 18
+        && most.combined <= levels.saturating_mul(64 * block);
     work.take();
     for half in 0..ENTRIES {
         map.put_mut(alloc, Counted::new(2 * half, work), half, steps)
