@@ -1,17 +1,17 @@
 //! A filter as work that is divided.
-ghost use Rattle.std.specs.Prelude.{◌≡◌, Some, None, length, IfOk, if◌then◌else◌};
+ghost use Rattle.std.specs.Prelude.{◌≡◌, ◌++◌, [], ◌∷◌, Some, None, length, IfOk, if◌then◌else◌};
 ghost use Rattle.std.specs.List.{filter as filtered};
 ghost use Rattle.map_model.specs.Entries.{IsIncreasing};
 ghost use Rattle.bulk_passes.specs.Answers.{IsAnswer, IsPutTogether, filtered_entries};
 
-use aug_monoid::{Augment, Leaf, NoMemory, Share, SyncAugment, Test};
-use entry_lists::filtered_of;
+use aug_monoid::{Augment, Key, Leaf, NoMemory, Share, SyncAugment, Test, share_entry};
 use fork_join::{Cut, Divide, Gate, Opened, divide, divide_alone};
+use join_core::Part;
 use std::alloc::Global;
 use std::marker::{Send, Sync};
 use std::thread::Threads;
 use tree_base::{BlockSize, LookOver, TreeOver};
-use tree_making::{entries_of, join_around, tree_of};
+use tree_making::{join_around, tree_of};
 
 /// A part with at most the entries of this many least blocks is worked on as a slice.
 pub const SLICED_BLOCKS: u64 = 32;
@@ -90,7 +90,68 @@ fn passing_entry<K: Share, V: Share, T: Test<K, V>>(
     }
 }
 
-/// A small tree, filtered as a slice.
+/// Appends another owner of an entry, where it holds. A filter calls it for each entry, so it is no call of its own.
+#[inline(always)]
+fn push_passing<K: Share, V: Share, T: Test<K, V>>(
+    alloc: Global,
+    key: &K,
+    val: &V,
+    test: &T,
+    out: &mut Vec<(K, V)>,
+) -> Result<(), NoMemory>
+    ensures { IfOk result (λ _. out.new.items ≡ out.old.items ++ filtered (λ e. T.passes test.now e.0 e.1) ((key.now, val.now) ∷ [])) }
+{
+    if test.holds(key, val) {
+        out.push(share_entry(alloc, key, val)?)?;
+    }
+    Ok(())
+}
+
+/// Appends the entries of a leaf that hold, in one walk over it.
+fn filter_leaf<K: Key, V: Share, L: Leaf<K, V>, T: Test<K, V>>(
+    alloc: Global,
+    leaf: &L,
+    test: &T,
+    out: &mut Vec<(K, V)>,
+) -> Result<(), NoMemory>
+    ensures { IfOk result (λ _. out.new.items ≡ out.old.items ++ filtered (λ e. T.passes test.now e.0 e.1) (L.entries leaf.now)) }
+{
+    let mut walk = leaf.walk();
+    for _at in 0..leaf.len() {
+        let Some(entry) = leaf.walk_next(&mut walk) else {
+            unreachable!()
+        };
+        push_passing(alloc, entry.key(), entry.val(), test, out)?;
+    }
+    Ok(())
+}
+
+/// Appends the entries of a tree that hold, block by block.
+fn filter_into<A: Augment, L: Leaf<A::Key, A::Val>, S: BlockSize, T: Test<A::Key, A::Val>>(
+    alloc: Global,
+    part: Part<'_, A, L, S>,
+    test: &T,
+    out: &mut Vec<(A::Key, A::Val)>,
+) -> Result<(), NoMemory>
+    ensures { IfOk result (λ _. out.new.items ≡ out.old.items ++ filtered (λ e. T.passes test.now e.0 e.1) part.entry.tree.now.entries) }
+{
+    match part.tree.look() {
+        LookOver::Empty => Ok(()),
+        LookOver::Block { leaf } => filter_leaf(alloc, leaf, test, out),
+        LookOver::Node {
+            left,
+            key,
+            val,
+            right,
+        } => {
+            filter_into(alloc, Part { tree: left }, test, out)?;
+            push_passing(alloc, key, val, test, out)?;
+            filter_into(alloc, Part { tree: right }, test, out)
+        }
+    }
+}
+
+/// A small tree, filtered in one pass.
 fn filter_small<A: Augment, L: Leaf<A::Key, A::Val>, S: BlockSize, T: Test<A::Key, A::Val>>(
     alloc: Global,
     tree: &TreeOver<A, L, S>,
@@ -100,8 +161,8 @@ fn filter_small<A: Augment, L: Leaf<A::Key, A::Val>, S: BlockSize, T: Test<A::Ke
 {
     let _least = tree.block_size(); // for the proof alone: the block size is lawful
     let _size = tree.size(); // for the proof alone: keys rise
-    let entries = entries_of(alloc, tree)?;
-    let kept = filtered_of(alloc, &entries, test)?;
+    let mut kept = Vec::with_capacity(alloc, tree.size() as usize)?;
+    filter_into(alloc, Part { tree }, test, &mut kept)?;
     tree_of(alloc, kept)
 }
 

@@ -96,6 +96,12 @@ impl<K: Key, V: Share> Leaf<K, V> for PlainLeaf<K, V> {
         }
     }
 
+    // Room for all is made once, so that each entry is stored with no call.
+    fn share_into(&self, alloc: Global, out: &mut Vec<(K, V)>) -> Result<(), NoMemory> {
+        out.reserve(self.entries.len())?;
+        push_shares(alloc, out, &self.entries)
+    }
+
     fn front(&self, alloc: Global, at: u64) -> Result<PlainLeaf<K, V>, NoMemory> {
         let entries = shares_of(alloc, &self.entries[..at as usize])?;
         Ok(PlainLeaf { entries })

@@ -2,9 +2,9 @@ use Rattle.std.proofs.Common.{◌≡◌, Some, None, sym, ap, ◌∙◌}
 use Rattle.std.specs.List.{slice_get}
 use Rattle.std.specs.Option.{option_map}
 use Rattle.map_model.proofs.Folds.{fold-one}
+use Rattle.map_model.proofs.Places.{entry_there}
 use Rattle.aug_monoid.specs.Lending.{entry_of}
 use Rattle.tree_base.proofs.Nodes.{drop_at}
-use Rattle.tree_base.proofs.Walks.{entry_there}
 use Rattle.tree_base.proofs.folding.base_next.Goals as goal
 
 pub returns-clause-value : goal.returns-clause-value
