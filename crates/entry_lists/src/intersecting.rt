@@ -20,7 +20,7 @@ pub fn intersect_of<K: Key, V: Share, R: Resolve<V>>(
     requires second { IsIncreasing K.cmp b.now }
     ensures { IfOk result (λ v. v.items ≡ intersect K.cmp (R.resolved how.now) a.now b.now) }
 {
-    let mut out = Vec::new(alloc);
+    let mut out = Vec::with_capacity(alloc, a.len().min(b.len()))?;
     let (mut left, mut right) = (a, b);
     while let Some((near, others)) = left.split_first() {
         let Some((far, rest)) = right.split_first() else {
