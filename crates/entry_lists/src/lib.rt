@@ -1,19 +1,17 @@
 //! Work on increasing slices of entries: one pass over each, each entry shared once; and cuts of them at a key.
 //!
-//! `union_of`, `intersect_of`, `difference_of` and `filtered_of` answer new lists in O(m + n) for slices of m and n entries.
+//! `union_of`, `intersect_of` and `difference_of` answer new lists in O(m + n) for slices of m and n entries.
 //! `cut_slice` and `cut_front` lend the entries below a key, the value at it and those above it: the one by halves, the other
 //! from the front, where the key is near. A call refuses only for want of memory.
 #![tactic(auto)]
 
 mod differing;
-mod filtering;
 mod intersecting;
 mod pushing;
 mod slicing;
 mod uniting;
 
 pub use differing::difference_of;
-pub use filtering::filtered_of;
 pub use intersecting::intersect_of;
 pub use pushing::{push_all_shared, push_shared};
 pub use slicing::{SliceParts, cut_front, cut_slice};
