@@ -41,7 +41,7 @@ impl<'a, T, K: Key, W: Gives<T, K>> Divide<&'a [T], (), Vec<(K, ())>> for Gather
             let (front, back) = part.split_at(part.len() / 2);
             return Ok(Opened::Split(front, (), back));
         }
-        let keys = gathered::<T, K, W>(alloc, self.how, part)?;
+        let keys = set_of_alone::<T, K, W>(alloc, self.how, part)?;
         Ok(Opened::Done(keys))
     }
 
@@ -71,8 +71,9 @@ fn pushed<T, K: Key, W: Gives<T, K>>(
     Ok(keys)
 }
 
-// The set of a list's items, at once.
-fn gathered<T, K: Key, W: Gives<T, K>>(
+/// `set_of` on one thread, which asks of items and keys nothing about threads. For n keys it makes about n * log n comparisons.
+/// `NoMemory` for want of memory alone.
+pub fn set_of_alone<T, K: Key, W: Gives<T, K>>(
     alloc: Global,
     how: &W,
     items: &[T],

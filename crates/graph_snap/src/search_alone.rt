@@ -3,8 +3,7 @@ ghost use Rattle.std.specs.Prelude.{◌≡◌, IfOk};
 ghost use Rattle.std.specs.Ordering.{nat_cmp};
 ghost use Rattle.map_model.specs.Entries.{IsIncreasing};
 ghost use Rattle.map_model.specs.SetOperations.{difference};
-ghost use Rattle.std.specs.List.{flat_map};
-ghost use Rattle.graph_snap.specs.Edges.{AreSets, edges_of, set_at};
+ghost use Rattle.graph_snap.specs.Edges.{AreSets, edges_of};
 ghost use Rattle.graph_snap.specs.Merging.{at_distance, neighbours_of, next_front};
 ghost use Rattle.graph_snap.specs.Walks.{reach};
 
@@ -14,24 +13,9 @@ use crate::search::{
 };
 use crate::vertices::Vertices;
 use aug_map::CodedMap;
-use aug_monoid::{First, NoMemory, Nothing};
-use gathering::Gives;
+use aug_monoid::{First, NoMemory};
+use gathering::set_of_alone;
 use std::alloc::Global;
-
-// The out-neighbours of the vertices of a front as they come.
-fn pushed_near(
-    alloc: Global,
-    vertices: &Vertices,
-    front: &[(u64, u64)],
-) -> Result<Vec<(u64, ())>, NoMemory>
-    ensures { IfOk result (λ near. near.items ≡ flat_map (λ e. set_at vertices.now.entries e.0) front.now) }
-{
-    let mut near = Vec::new(alloc);
-    for entry in front {
-        Near { vertices }.push_given(alloc, entry, &mut near)?;
-    }
-    Ok(near)
-}
 
 // The vertices that an edge leads to from a front, with their distance.
 fn near_pairs_alone(
@@ -42,10 +26,8 @@ fn near_pairs_alone(
 ) -> Result<Vec<(u64, u64)>, NoMemory>
     ensures { IfOk result (λ pairs. pairs.items ≡ at_distance distance (neighbours_of vertices.now.entries front.now)) }
 {
-    let near = pushed_near(alloc, vertices, front)?;
-    let set: CodedMap<Nothing<u64, ()>> = CodedMap::build_alone(alloc, &near)?;
-    let elements = set.to_vec(alloc)?;
-    pairs_at(alloc, &elements, distance)
+    let near = set_of_alone(alloc, &Near { vertices }, front)?;
+    pairs_at(alloc, &near, distance)
 }
 
 // The vertices of a list in order that were not found before. The time goes by how long the list is.

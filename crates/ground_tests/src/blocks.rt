@@ -69,6 +69,19 @@ pub(crate) fn assert_walk<R: Abort, L: Leaf<u64, u64>>(
     assert_eq!(rt; walked(rt, alloc, leaf).as_slice(), wanted);
 }
 
+/// Asserts what a list of 1,9 has once a leaf's entries are shared into it.
+pub(crate) fn assert_shares<R: Abort, L: Leaf<u64, u64>>(
+    rt: &R,
+    alloc: Global,
+    leaf: &L,
+    wanted: &[(u64, u64)],
+) {
+    let mut entries = Vec::new(alloc);
+    entries.push((1, 9)).expect(rt, "memory");
+    leaf.share_into(alloc, &mut entries).expect(rt, "memory");
+    assert_eq!(rt; entries.as_slice(), wanted);
+}
+
 /// The leaf of 5,1 7,2 300,3 with 9,4 in its third place.
 pub(crate) fn inserted<R: Abort, L: Leaf<u64, u64>>(rt: &R, alloc: Global) -> L {
     let leaf = L::from_entries(alloc, &[(5, 1), (7, 2), (300, 3)]).expect(rt, "memory");

@@ -1,8 +1,8 @@
 //! The bytes of small blocks, worked out by hand, and such blocks through their trait.
 
 use crate::blocks::{
-    assert_seeks, assert_walk, between_none, grown, inserted, lessened, one, rejoined, replaced,
-    shrunk, walked,
+    assert_seeks, assert_shares, assert_walk, between_none, grown, inserted, lessened, one,
+    rejoined, replaced, shrunk, walked,
 };
 use aug_monoid::{Leaf, owned};
 use diff_leaf::{DiffLeaf, leaf_crosses};
@@ -77,6 +77,14 @@ fn a_walk_decodes_all_entries(rt: HostRuntime) {
     let leaf: DiffLeaf<u64> = inserted(&rt, alloc);
     assert_walk(&rt, alloc, &leaf, &[(5, 1), (7, 2), (9, 4), (300, 3)]);
 }
+
+#[test]
+fn entries_are_decoded_behind_those_that_stood_there(rt: HostRuntime) {
+    let leaf: DiffLeaf<u64> = inserted(&rt, rt.alloc());
+    assert_shares(&rt, rt.alloc(), &leaf, SHARED);
+}
+
+const SHARED: &[(u64, u64)] = &[(1, 9), (5, 1), (7, 2), (9, 4), (300, 3)];
 
 #[test]
 fn one_entry_is_changed_in_place(rt: HostRuntime) {

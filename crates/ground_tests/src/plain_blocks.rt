@@ -1,8 +1,8 @@
 //! Plain blocks of a few entries.
 
 use crate::blocks::{
-    assert_seeks, assert_walk, between_none, grown, inserted, lessened, one, rejoined, replaced,
-    shrunk, walked,
+    assert_seeks, assert_shares, assert_walk, between_none, grown, inserted, lessened, one,
+    rejoined, replaced, shrunk, walked,
 };
 use aug_monoid::{Leaf, Pair64, owned};
 use leaf_blocks::{PlainLeaf, leaf_crosses};
@@ -61,6 +61,14 @@ fn a_walk_gives_all_entries(rt: HostRuntime) {
         entries.as_slice()
     );
 }
+
+#[test]
+fn entries_are_shared_behind_those_that_stood_there(rt: HostRuntime) {
+    let leaf: Numbers = inserted(&rt, rt.alloc());
+    assert_shares(&rt, rt.alloc(), &leaf, SHARED);
+}
+
+const SHARED: &[(u64, u64)] = &[(1, 9), (5, 1), (7, 2), (9, 4), (300, 3)];
 
 fn assert_entries<R: Abort>(rt: &R, alloc: Global, leaf: Numbers, wanted: &[(u64, u64)]) {
     assert_walk(rt, alloc, &leaf, wanted);

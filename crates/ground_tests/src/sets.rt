@@ -3,7 +3,7 @@ ghost use Rattle.std.specs.Prelude.{◌/◌, [], ◌∷◌};
 
 use aug_monoid::NoMemory;
 use fork_join::Cut;
-use gathering::{Gives, set_of};
+use gathering::{Gives, set_of, set_of_alone};
 use meeting::Meeting;
 use std::alloc::Global;
 use std::marker::Sync;
@@ -46,4 +46,11 @@ fn halves_of_a_list_meet_and_give_each_key_once(rt: HostRuntime) {
     let wanted = [(0, ()), (2, ()), (9, ()), (25, ()), (90, ())];
     assert_eq!(rt; keys.as_slice(), wanted.as_slice());
     assert!(rt; met);
+}
+
+#[test]
+fn one_thread_gives_each_key_once(rt: HostRuntime) {
+    let keys = set_of_alone(rt.alloc(), &WithTenth, &[90, 25, 9, 25, 2]).expect(&rt, "memory");
+    let wanted = [(0, ()), (2, ()), (9, ()), (25, ()), (90, ())];
+    assert_eq!(rt; keys.as_slice(), wanted.as_slice());
 }
