@@ -1,0 +1,11 @@
+//! Tests of what the tools read and write without the program around them: sources and sinks, records, and many points at once.
+#![tactic(auto)]
+
+#[cfg(test)]
+mod edges;
+#[cfg(test)]
+mod many_points;
+#[cfg(test)]
+mod records;
+#[cfg(test)]
+mod serve_records;
