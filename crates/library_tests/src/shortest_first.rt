@@ -1,5 +1,5 @@
-//! That `all_of` intersects the shortest postings first: then no two long ones are intersected, and nothing forks. Where memory is refused, a test
-//! ends here.
+//! That `all_of` intersects the shortest postings first: then no two long ones are intersected, and nothing forks. Where memory
+//! is refused, a test ends here.
 use fork_join::{Cut, FreeGate, Gate};
 use inverted_index::{Doc, Index, Term};
 use std::alloc::Global;
