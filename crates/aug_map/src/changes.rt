@@ -10,9 +10,10 @@ use std::sync::ledger::Ledger;
 use tree_base::BlockSize;
 
 impl<A: Augment, L: LeafMut<A::Key, A::Val>, S: BlockSize> MapOver<A, L, S> {
-    /// Sets a key to a value, in at most `64 * (height + 1) * (B + 2) + L::FIND` steps. Where no other map has part in a
-    /// node or block on the way, it is changed where it stands; from the first that has another owner, and where the
-    /// `Augment` may refuse, the change goes on by a copy, as `put` does. After a refusal the map is as it was.
+    /// Sets a key to a value, in at most `64 * (height + 1) * (B + 2) + L::FIND` steps. A node or block on the way that no other
+    /// map has part in is changed where it stands, if the node stays balanced; from the first one on that has another owner or
+    /// would not, and everywhere where the `Augment` may refuse, the change goes on by a copy, as `put` does. After a refusal
+    /// the map is as it was.
     pub fn put_mut<C: Ledger>(
         &mut self,
         alloc: Global,
@@ -27,8 +28,8 @@ impl<A: Augment, L: LeafMut<A::Key, A::Val>, S: BlockSize> MapOver<A, L, S> {
         tree_changes::put_mut(alloc, &mut self.tree, key, val, steps)
     }
 
-    /// Removes a key, which the map need not have, in place as `put_mut` sets one and in as many steps. After a refusal the map
-    /// is as it was.
+    /// Removes a key, which the map need not have, in place as `put_mut` sets one and in as many steps; the entry of a node always
+    /// goes by a copy. After a refusal the map is as it was.
     pub fn del_mut<C: Ledger>(
         &mut self,
         alloc: Global,

@@ -2,8 +2,10 @@
 //!
 //! Contracts see a `Map` as its entries in the order of their keys, and its height. Each answer shares what it can with the
 //! arguments, so a copy of a map costs no more than a pointer. `put_mut`, `del_mut` and `put_with` change the map that they are
-//! called on, and no other; `union_into` and `multi_put_into` take a map that is given up, and move what it alone has. No other
-//! call changes an argument. A call refuses only for want of memory.
+//! called on, and no other; `union_into` and `multi_put_into` take a map that is given up, and move what it alone has: a refusal
+//! loses it. No other call changes an argument. `NoMemory` is the one refusal, also where the `Augment` refuses.
+//!
+//! Tests: `map_tests`, `work_tests`. Wrong bodies: here, in `must-fail/` and `wrong-bodies/`.
 #![tactic(auto)]
 
 mod alone;

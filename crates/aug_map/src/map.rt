@@ -91,6 +91,7 @@ impl<A: Augment, L: Leaf<A::Key, A::Val>, S: BlockSize> MapOver<A, L, S> {
 impl<A: Augment, L: Leaf<A::Key, A::Val>, S: BlockSize> Share for MapOver<A, L, S> {
     ghost never_refuses = { ⊥ };
 
+    /// A map of the same entries, in O(1) and in the memory of this one.
     fn share(&self, alloc: Global) -> Result<MapOver<A, L, S>, NoMemory> {
         MapOver::from_tree(self.tree.share(alloc))
     }

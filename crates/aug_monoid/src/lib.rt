@@ -7,6 +7,8 @@
 //!
 //! `Steps` counts comparisons of keys and combinations of augmented values, so that contracts can bound them. `NoMemory` is the
 //! one refusal.
+//!
+//! Tests: `ground_tests`. Wrong bodies: here, in `wrong-bodies/`.
 #![tactic(auto)]
 
 mod augment;

@@ -2,6 +2,8 @@
 //!
 //! A fold of a range takes the stored folds of the trees that lie in it whole, so its cost goes with the height of the tree
 //! and the size of a block, and not with the number of entries in the range.
+//!
+//! Tests: `map_tests`, `work_tests`. Wrong bodies: none here; `aug_map` states these clauses again.
 #![tactic(auto)]
 
 mod filter;

@@ -40,7 +40,7 @@ impl<S: State> Model for Caller<S> {
 }
 
 impl<S: State> Caller<S> {
-    /// The caller's number, from 0 on.
+    /// The caller's number, from 0 on. O(1).
     pub fn number(&self) -> u32
         ensures { result ≡ self.now.number }
     {
@@ -48,7 +48,7 @@ impl<S: State> Caller<S> {
     }
 
     /// Sends a batch with a tag. It never blocks; the store's next turn may take it, and its next end of a round does.
-    /// A refusal hands the batch back, and nothing was sent.
+    /// A refusal hands the batch back, and nothing was sent. O(1) on average, as a lane's `submit`.
     pub fn submit(&mut self, tag: u64, batch: Batch<S::Op>) -> Result<(), Refused<Batch<S::Op>>>
         ensures same { SameCaller self.old self.new }
         ensures reader { self.new.reader ≡ self.old.reader }
@@ -68,7 +68,7 @@ impl<S: State> Caller<S> {
         }
     }
 
-    /// The newest version that is published, as by `Reader::try_snapshot`: it never waits.
+    /// The newest version that is published, as by `Reader::try_snapshot` and in its time: it never waits.
     pub fn try_snapshot(&mut self, alloc: Global) -> Result<Version<S>, Missed>
         ensures same { SameCaller self.old self.new }
         ensures sent { self.new.sent ≡ self.old.sent }
@@ -78,7 +78,8 @@ impl<S: State> Caller<S> {
         self.reader.try_snapshot(alloc)
     }
 
-    /// The newest version that is published, as soon as the turn of the reader's stripe is free. It may wait.
+    /// The newest version that is published, as soon as the turn of the reader's stripe is free, in the time of a `try_snapshot` for
+    /// each time that it tries. It may wait.
     pub fn snapshot<R: Wait>(&mut self, rt: &R, alloc: Global) -> Result<Version<S>, NoMemory>
         ensures same { SameCaller self.old self.new }
         ensures sent { self.new.sent ≡ self.old.sent }

@@ -2,6 +2,8 @@
 //!
 //! Each caller has a lane to the store and a reader of the store's root. A turn takes what the lanes show and publishes it as one
 //! version; the end of a round takes all that was sent. No batch is lost, doubled or reordered, also where memory is refused.
+//!
+//! Tests: `store_tests`. Wrong bodies: here, in `wrong-bodies/`.
 #![tactic(auto)]
 
 mod caller;

@@ -67,7 +67,7 @@ fn tell_gate<G: Gate>(gate: &G, grows: bool) {
 
 impl<S: State> Store<S> {
     /// A store with so many callers, numbered from 0 in order, whose version has this base and an empty journal.
-    /// It takes the memory of a root with so many readers, and of a lane for each caller.
+    /// It takes the memory of a root with so many readers, and of a lane for each caller. O(c) for c callers.
     pub fn start(
         alloc: Global,
         base: S,
@@ -86,7 +86,8 @@ impl<S: State> Store<S> {
     /// It answers how many batches are published. On a refusal nothing was published, and what was taken stays pending.
     ///
     /// It enters the gate at 200 before it takes, and at 201 after it has published a longer version.
-    /// It takes memory only where a lane shows a batch or one is pending. It may wait for readers.
+    /// It takes memory only where a lane shows a batch or one is pending. It may wait for readers. O(n + c) for n batches that it
+    /// takes or finds pending and c callers, beside what the state's `change` takes.
     pub fn turn<R: Threads + Wait + Sync, G: Gate>(
         &mut self,
         rt: &R,
@@ -114,7 +115,8 @@ impl<S: State> Store<S> {
     /// journal. It answers how many batches are published: as many as the callers have sent.
     /// After a refusal the call may be made again: nothing is lost, and what was published is not published again.
     ///
-    /// It enters the gate in the state's own forks alone. It may wait for readers.
+    /// O(n + c) for n batches and c callers, beside what the state's `change` takes. It enters the gate nowhere. It may wait for
+    /// readers.
     pub fn end_round<R: Threads + Wait + Sync, G: Gate>(
         &mut self,
         rt: &R,
@@ -161,7 +163,8 @@ impl<S: State> Store<S> {
         Ok(version)
     }
 
-    /// The end of a round as by `end_round`, and then the version of all batches. A refusal hands store and callers back.
+    /// The end of a round as by `end_round`, in its time, and then the version of all batches. A refusal hands store and callers
+    /// back.
     pub fn finish<R: Threads + Wait + Sync, G: Gate>(
         self,
         rt: &R,

@@ -3,6 +3,8 @@
 //! Each call takes the runtime, the allocator, a gate and a cut first, and its answer depends on none of them. Its twin, whose
 //! name ends in `_alone`, gives the same answer on one thread, and takes of these the allocator alone. The only refusal is want of
 //! memory, which leaves all arguments as they were.
+//!
+//! Tests: `bulk_tests`, `work_tests`. Wrong bodies: none here; `aug_map` states these clauses again.
 #![tactic(auto)]
 
 mod combination;

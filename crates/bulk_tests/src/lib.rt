@@ -1,4 +1,6 @@
 //! The bulk operations at concrete types, in threads.
+//!
+//! Tests: here. Wrong bodies: none; a test promises nothing.
 #![tactic(auto)]
 
 #[cfg(test)]

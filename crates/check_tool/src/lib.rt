@@ -3,6 +3,8 @@
 //! `check` judges the text by `run_check` with a map that operations change, and `run_check` replies `yes`, or `no` with the
 //! number of the least point that fails. It starts no thread of its own but for the changes of the map, and refuses only for
 //! want of memory.
+//!
+//! Tests: `program_tests`. Wrong bodies: here, in `wrong-bodies/`.
 #![tactic(auto)]
 
 mod checking;

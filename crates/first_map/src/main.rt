@@ -1,4 +1,6 @@
 //! A first program over the library: prices by day, and the lowest of any run of days, by an augment of its own.
+//!
+//! Tests: its stored run. Wrong bodies: none; it promises nothing but to be safe.
 #![tactic(auto)]
 
 ghost use Rattle.std.specs.Prelude.{◌-◌, ◌^◌, ◌<◌, min};

@@ -2,6 +2,8 @@
 //!
 //! `GraphAnswers` says what `serve_text` asks of a state: the reply to a query of a version (`degree`, `bfs`, `size`), and the
 //! last line of the whole text. A search is made on the thread of its caller.
+//!
+//! Tests: `serve_program_tests`. Wrong bodies: none here; `gserve_tool` states these clauses of whole texts.
 #![tactic(auto)]
 
 mod answering;

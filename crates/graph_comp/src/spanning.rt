@@ -91,9 +91,9 @@ fn most_at_once(cut: Cut, vertices: usize, edges: usize) -> usize {
     }
 }
 
-/// The forest of edges whose ends are vertices in order. The edges are cut in as many parts as there are workers, where the cut
-/// allows it and each part has a quarter as many edges as there are vertices. For n vertices and m edges, which are at least half as
-/// many, it takes O(m * log n) time.
+/// The forest of edges whose ends are vertices in order. Where the cut allows it the edges are cut by halves until there are as many
+/// parts as workers, or up to twice as many, and no further where a part has about a quarter as many edges as there are vertices.
+/// For n vertices and m edges, which are at least half as many, it takes O(m * log n) time.
 pub(crate) fn spanned<R: Threads + Sync, G: Gate>(
     rt: &R,
     alloc: Global,

@@ -4,6 +4,8 @@
 //! gaps. `add_edges` and `cut_edges` take edges in any order and answer a new graph, which shares what it can with the old one;
 //! `bfs` answers what walks from a vertex reach, with the least numbers of edges. What is called with a runtime and a cut forks
 //! where the cut allows it, and answers the same on any number of threads. A call refuses only for want of memory.
+//!
+//! Tests: `library_tests`. Wrong bodies: here, in `wrong-bodies/`.
 #![tactic(auto)]
 
 mod batch;

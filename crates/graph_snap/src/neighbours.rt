@@ -36,6 +36,7 @@ impl Drop for Neighbours {
 impl Share for Neighbours {
     ghost never_refuses = { ⊥ };
 
+    /// The same set, in O(1) and in the memory of this one.
     fn share(&self, alloc: Global) -> Result<Neighbours, NoMemory> {
         let set = self.set.share(alloc)?;
         Ok(Neighbours { set })

@@ -3,6 +3,8 @@
 //! A script is a list of `GraphCommand`s; `run_graph` answers the replies in order. A command's edges are added or cut by one
 //! call of `graph_snap`; a snapshot costs a pointer and stays as it is, and searches can name it by its number. A run refuses
 //! only for want of memory.
+//!
+//! Tests: `program_tests`. Wrong bodies: none here; `pam_top` states these clauses of whole runs.
 #![tactic(auto)]
 
 mod command;

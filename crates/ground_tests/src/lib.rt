@@ -1,4 +1,6 @@
 //! Tests of the crates below the trees: the plain program, the instances, slices, sets, forks, turns and blocks.
+//!
+//! Tests: here. Wrong bodies: none; a test promises nothing.
 #![tactic(auto)]
 
 #[cfg(test)]

@@ -2,6 +2,8 @@
 //!
 //! `EdgeOp` and `EdgeQuery` are what `serve_script` asks of the operations and queries of a tool: how a record says one, and
 //! which of served_graph it stands for.
+//!
+//! Tests: `serve_program_tests`. Wrong bodies: none here; `pam_top` states these clauses of whole runs.
 #![tactic(auto)]
 
 mod edge_ops;

@@ -4,6 +4,8 @@
 //! goes down one path, and `stab` and `overlap` leave out each part that ends before what is asked for. `add` and `del` answer a
 //! new set and leave the old one as it was; `add_mut` and `del_mut` change a set in place where no other has part in it. A call
 //! refuses only for want of memory, and then the set is as it was.
+//!
+//! Tests: `library_tests`. Wrong bodies: none here; `interval_tool` states these clauses again.
 #![tactic(auto)]
 
 mod asking;

@@ -2,6 +2,8 @@
 //!
 //! A script is a list of `IntervalCommand`s; `run_intervals` answers the replies in order. The set is changed in place. An
 //! interval whose ends are not in order is a bad record, so a run refuses only for want of memory.
+//!
+//! Tests: `program_tests`. Wrong bodies: none here; `pam_top` states these clauses of whole runs.
 #![tactic(auto)]
 
 mod command;

@@ -115,7 +115,8 @@ fn most_at_once(cut: Cut, docs: usize) -> usize {
     }
 }
 
-/// The postings of those documents that are new, gathered in as many parts as there are workers, where the cut allows it.
+/// The postings of those documents that are new, gathered where the cut allows it by halves, in as many parts as there are workers
+/// or up to twice as many.
 pub(crate) fn gathered_all<R: Threads + Sync, G: Gate>(
     rt: &R,
     alloc: Global,

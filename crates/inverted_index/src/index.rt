@@ -77,6 +77,7 @@ impl Index {
 impl Share for Index {
     ghost never_refuses = { ⊥ };
 
+    /// The same documents, in O(1) and in the memory of these.
     fn share(&self, alloc: Global) -> Result<Index, NoMemory> {
         let known = self.known.share(alloc)?;
         let lists = self.lists.share(alloc)?;

@@ -4,6 +4,8 @@
 //! Documents are added one at a time or in batches (`add_doc`, `add_docs`), a term's weight being how often the text has it.
 //! `all_of`, `any_of` and `without` intersect, unite and take away postings; `top` answers the first documents by falling weight.
 //! An index is persistent: each answer shares what it can with the index before. A call refuses only for want of memory.
+//!
+//! Tests: `library_tests`. Wrong bodies: here, in `wrong-bodies/`.
 #![tactic(auto)]
 
 mod adding;

@@ -60,6 +60,7 @@ impl Postings {
 impl Share for Postings {
     ghost never_refuses = { ⊥ };
 
+    /// The same postings, in O(1) and in the memory of these.
     fn share(&self, alloc: Global) -> Result<Postings, NoMemory> {
         let weights = self.weights.share(alloc)?;
         Ok(Postings { weights })

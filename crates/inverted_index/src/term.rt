@@ -144,6 +144,7 @@ impl Ord for Term {
 impl Share for Term {
     ghost never_refuses = { ⊥ };
 
+    /// The same term, in O(1) and in the memory of this one.
     fn share(&self, _alloc: Global) -> Result<Term, NoMemory> {
         let bytes = Arc::try_clone(&self.bytes)?;
         Ok(Term { bytes })

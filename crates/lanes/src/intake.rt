@@ -29,7 +29,7 @@ impl<T> Model for Intake<T> {
 
 impl<T: Drop> Intake<T> {
     /// Moves the items that it sees in the ring into the room's spare places. It takes no memory and never blocks.
-    /// How many items it sees is open.
+    /// How many items it sees is open. O(1) an item.
     pub fn poll(&mut self, room: &mut Vec<T>)
         ensures lane { self.new.lane ≡ self.old.lane }
         ensures polled { (items : List T) × (self.new.received ≡ self.old.received ++ items) × (room.new.items ≡ room.old.items ++ items) }
@@ -49,7 +49,7 @@ impl<T: Drop> Intake<T> {
         }
     }
 
-    /// How many of the items sent aren't received, and that those received are the first ones. It takes no memory.
+    /// How many of the items sent aren't received, and that those received are the first ones. O(1), and it takes no memory.
     pub fn beside(&mut self, from: &mut Submitter<T>) -> u64
         requires { self.old.lane ≡ from.old.lane }
         ensures intake { self.new ≡ self.old }
@@ -61,7 +61,7 @@ impl<T: Drop> Intake<T> {
     }
 
     /// Takes all items sent that aren't received, and puts them at the end of the list.
-    /// It goes on in order: what the ring holds, then what waits. A refusal changes nothing.
+    /// It goes on in order: what the ring holds, then what waits. O(1) an item. A refusal changes nothing.
     pub fn collect(&mut self, from: &mut Submitter<T>, out: &mut Vec<T>) -> Result<(), NoMemory>
         requires { self.old.lane ≡ from.old.lane }
         ensures lane { self.new.lane ≡ self.old.lane }

@@ -56,7 +56,7 @@ pub struct Refused<T> {
 }
 
 impl<T: Drop> Lane<T> {
-    /// The two ends of one lane, on which nothing was sent. It takes the memory of the ring.
+    /// The two ends of one lane, on which nothing was sent. It takes the memory of the ring, which has 1024 places.
     pub fn make(alloc: Global) -> Result<Lane<T>, NoMemory>
         ensures lane { IfOk result (λ lane. lane.submitter.lane ≡ lane.intake.lane) }
         ensures sent { IfOk result (λ lane. lane.submitter.sent ≡ []) }

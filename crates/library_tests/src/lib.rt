@@ -1,4 +1,6 @@
 //! Tests of the libraries over maps: intervals, points, documents and graphs.
+//!
+//! Tests: here. Wrong bodies: none; a test promises nothing.
 #![tactic(auto)]
 
 #[cfg(test)]

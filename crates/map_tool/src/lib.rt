@@ -4,6 +4,8 @@
 //! that change or ask one entry say how many steps they take. `run_map` runs a whole script from empty registers and answers
 //! the replies; long runs of puts into one register are done at once (`put_runs`). What each command means stands in
 //! `specs/Effects`.
+//!
+//! Tests: `program_tests`. Wrong bodies: none here; `pam_top` states these clauses of whole runs.
 #![tactic(auto)]
 
 mod asking;

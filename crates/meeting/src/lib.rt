@@ -2,6 +2,8 @@
 //!
 //! A test hands it to a call that forks. Each half waits at the gate until the other one comes, or until it has looked for it
 //! often enough in vain, and the gate remembers whether they met: halves that run one after the other never do.
+//!
+//! Tests: `bulk_tests`, `program_tests`. Wrong bodies: none; it is for tests.
 #![tactic(auto)]
 
 use fork_join::Gate;

@@ -5,6 +5,8 @@
 //! `split_at_wipe` gives the operations before the first wipe; `outcomes_of` what these come to, in O(n * log n) for n
 //! operations: to set a key, to remove it, or to add to it. `served_map` does these outcomes to a map at once. A call refuses
 //! only for want of memory.
+//!
+//! Tests: `served_tests`. Wrong bodies: here, in `wrong-bodies/`.
 #![tactic(auto)]
 
 mod composing;

@@ -23,7 +23,8 @@ impl<A: Augment> OrdMap<A> {
         counters::get::<A, Brand>(alloc, &self.map, key, Blank::new(1))
     }
 
-    /// Sets a key to a value, in O(log n). What no other map has part in is changed where it stands.
+    /// Sets a key to a value, in O(log n). Where the `Augment` is total, a node or block that no other map has part in is changed
+    /// where it stands, if the node stays balanced; from the first one on that can't be, the path is copied.
     ///
     ///     let old = map.share(alloc)?;
     ///     map.insert(alloc, 1, 11)?;     // `old` has what it had
@@ -34,7 +35,8 @@ impl<A: Augment> OrdMap<A> {
         counters::put::<A, Brand>(alloc, &mut self.map, key, val, Blank::new(1))
     }
 
-    /// Removes a key, which the map need not have, in O(log n). What no other map has part in is changed where it stands.
+    /// Removes a key, which the map need not have, in O(log n): where it stands in the same cases as `insert`, but for the entry of
+    /// a node, which always goes by a copy.
     ///
     ///     map.remove(alloc, &1)?;
     ///     map.get(alloc, &1)?     // None

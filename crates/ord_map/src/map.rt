@@ -72,7 +72,7 @@ impl<A: Augment> OrdMap<A> {
         self.map.aug()
     }
 
-    /// Goes over the entries in the order of their keys, in O(n) for all of them.
+    /// Goes over the entries in the order of their keys. An entry takes O(1), and the first one of a block O(log n).
     pub fn iter(&self, alloc: Global) -> Iter<'_, A>
         ensures { result ≡ self.now }
     {

@@ -1,4 +1,6 @@
 //! `pam TOOL`: reads commands from standard input, and writes their replies to standard output.
+//!
+//! Tests: its stored run. Wrong bodies: none; it promises nothing but to be safe.
 #![tactic(auto)]
 
 use fork_join::FreeGate;

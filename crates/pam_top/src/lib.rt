@@ -4,6 +4,8 @@
 //! status are an `Outcome` of the words and the bytes (`specs/Answer`), in which maps are sorted lists. `pam_plain` is the same
 //! without the tools that wait. Each status comes only with its cause, but out of memory, which is tied to none. `plain_map` is
 //! the plain program of one map, for tests.
+//!
+//! Tests: `program_tests`. Wrong bodies: here, in `must-fail/` and `wrong-bodies/`.
 #![tactic(auto)]
 
 mod asking;

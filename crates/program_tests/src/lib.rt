@@ -1,4 +1,6 @@
 //! Tests of the program: the replies of its tools, and whole runs.
+//!
+//! Tests: here. Wrong bodies: none; a test promises nothing.
 #![tactic(auto)]
 
 #[cfg(test)]

@@ -2,6 +2,8 @@
 //!
 //! The outer map has the points by (x, y). The augmented value of each of its parts is the map of the same points by (y, x),
 //! with the sum of their weights. Both maps store their blocks as gaps between the first numbers of places.
+//!
+//! Tests: `library_tests`. Wrong bodies: here, in `wrong-bodies/`.
 #![tactic(auto)]
 
 mod cross;

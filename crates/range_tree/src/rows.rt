@@ -47,6 +47,7 @@ impl Rows {
 impl Share for Rows {
     ghost never_refuses = { ⊥ };
 
+    /// The same rows, in O(1) and in the memory of these.
     fn share(&self, alloc: Global) -> Result<Rows, NoMemory> {
         let map = self.map.share(alloc)?;
         Ok(Rows { map })

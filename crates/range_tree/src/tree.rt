@@ -51,6 +51,7 @@ impl Drop for Points {
 impl Share for Points {
     ghost never_refuses = { ⊥ };
 
+    /// The same points, in O(1) and in the memory of these.
     fn share(&self, alloc: Global) -> Result<Points, NoMemory> {
         let map = self.map.share(alloc)?;
         Ok(Points { map })

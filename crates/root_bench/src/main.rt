@@ -1,5 +1,7 @@
 //! `root_bench OPERATION SIZE [COUNT]`: does one operation of the shared root or of the log. It writes the operation's checksum
 //! to standard output, which is the same in every run, and the nanoseconds that it took to standard error.
+//!
+//! Tests: its stored run. Wrong bodies: none; it promises nothing but to be safe.
 #![tactic(auto)]
 
 mod ends;

@@ -4,6 +4,8 @@
 //! (`Verdict`), or that all hold. It is generic in the state, its operations and its answers, as `serve_rounds` is. There is
 //! one state at a time, to which batches are applied in their order, so memory does not grow with the number of versions. It
 //! refuses only for want of memory.
+//!
+//! Tests: `program_tests`. Wrong bodies: here, in `wrong-bodies/`.
 #![tactic(auto)]
 
 mod checking;

@@ -5,6 +5,8 @@
 //! record says a command. Shapes of fields that tools share stand in `shapes`, single fields in `fields`. `line` and
 //! `counted_line` append lines, and leave the text as it was where they are refused. What a record and a number are is told in
 //! docs/TOOLS.md.
+//!
+//! Tests: `tool_tests`. Wrong bodies: none here; `pam_top` states these clauses of whole runs.
 #![tactic(auto)]
 
 mod command;

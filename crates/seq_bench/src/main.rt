@@ -1,6 +1,8 @@
 //! `seq_bench OPERATION SIZE SEED [WORKERS]`: does one operation on sequences of seeded random numbers, with this many workers
 //! (1 where it is not said). It writes the checksum of the answer to standard output, and to standard error the nanoseconds that
 //! the operation took, without making its input.
+//!
+//! Tests: its stored run. Wrong bodies: none; it promises nothing but to be safe.
 #![tactic(auto)]
 
 mod asking;

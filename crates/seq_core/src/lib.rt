@@ -5,6 +5,8 @@
 //! node over two balanced sequences, neither of which has more than three times the weight of the other. Every node and block
 //! keeps the sum of its items. Nodes and blocks have several owners, and none is ever changed. A call refuses only for want
 //! of memory.
+//!
+//! Tests: `seq_tests`. Wrong bodies: none here; `pac_seq` states these clauses again.
 #![tactic(auto)]
 
 mod build;

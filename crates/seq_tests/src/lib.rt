@@ -1,4 +1,6 @@
 //! Sequences at concrete types, with blocks of 1, 2 and 32 items at least.
+//!
+//! Tests: here. Wrong bodies: none; a test promises nothing.
 #![tactic(auto)]
 
 #[cfg(test)]

@@ -2,6 +2,8 @@
 //!
 //! A script is a list of `SeqCommand`s; `run_seq` answers the replies in order. A push or an append that would be too long, and
 //! a place that is not there, are answered as such before anything is made. A run refuses only for want of memory.
+//!
+//! Tests: `program_tests`. Wrong bodies: none here; `pam_top` states these clauses of whole runs.
 #![tactic(auto)]
 
 mod asking;

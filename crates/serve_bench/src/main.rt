@@ -1,6 +1,8 @@
 //! `serve_bench rounds WORKERS` runs the rounds of the records on standard input, with this many workers. `serve_bench kept COUNT`
 //! keeps this many versions of one served map. Each writes the last line of serve's text to standard output, and to standard error
 //! the nanoseconds that it took, without reading its records or making its first map.
+//!
+//! Tests: its stored run. Wrong bodies: none; it promises nothing but to be safe.
 #![tactic(auto)]
 
 mod kept;

@@ -3,6 +3,8 @@
 //! `run_caller` does what one caller has in a round: it submits its batches, and reads the newest version for its queries.
 //! `combine` takes so many turns of the store, of which each publishes what lanes show. `weave` puts the lines of callers in
 //! the order of the records.
+//!
+//! Tests: `serve_program_tests`. Wrong bodies: here, in `wrong-bodies/`.
 #![tactic(auto)]
 
 mod calling;

@@ -2,6 +2,8 @@
 //!
 //! `records` makes batches and reads in rounds of the commands of a tool, where each operation stands for one of the state that
 //! is served (`Says`); `callers` tells how many callers there are. O(n) for n commands. They refuse only for want of memory.
+//!
+//! Tests: `serve_program_tests`. Wrong bodies: none here; `serve_tool` and `gserve_tool` state these clauses of whole runs.
 #![tactic(auto)]
 
 mod converting;

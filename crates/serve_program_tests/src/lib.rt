@@ -1,4 +1,6 @@
 //! Tests of the tools serve and gserve through the whole program: worked inputs, edges that fail, many records, and threads that overlap.
+//!
+//! Tests: here. Wrong bodies: none; a test promises nothing.
 #![tactic(auto)]
 
 #[cfg(test)]

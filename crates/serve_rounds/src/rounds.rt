@@ -32,8 +32,8 @@ fn round_length<O: Drop, Q: Drop>(first: u64, records: &[Record<O, Q>]) -> usize
 /// turns as the round has batches, one at least; then the round ends. A round of one record starts no thread, and one without records
 /// takes no time. A round of n records and c callers with records takes O(c * n) looks at records, beside what they do.
 ///
-/// It enters the gate at 200 before each turn, at 201 after a turn that published, at 256 + c before each read of caller c, and in the
-/// state's own forks. It may wait. On a refusal store and callers are dropped.
+/// It enters the gate at 200 before each turn, at 201 after a turn that published, and at 256 + c before each read of caller c; what a
+/// state forks enters it nowhere. It may wait. On a refusal store and callers are dropped.
 pub fn run_rounds<S: Answers, R: Threads + Wait + Sync, G: Gate>(
     rt: &R,
     alloc: Global,

@@ -3,6 +3,8 @@
 //! An input begins with the number of callers; its records are batches' operations, reads and the ends of rounds.
 //! `served_commands` reads it for any `Operation` and `Query`, and tells the first bad record with its number and code.
 //! `ServeOp` and `ServeQuery` are those of the tool serve.
+//!
+//! Tests: `tool_tests`. Wrong bodies: none here; `pam_top` states these clauses of whole runs.
 #![tactic(auto)]
 
 mod commands;

@@ -4,6 +4,8 @@
 //! of them it has seen; it is lawful where the batches of each caller and those of each round stay before its later ones, each
 //! read has seen all rounds before its own and none after it, and along one caller's reads that number never falls. What is
 //! served and what is asked of it are generic (`Answers`).
+//!
+//! Tests: `serve_tests`. Wrong bodies: here, in `wrong-bodies/`.
 #![tactic(auto)]
 
 mod answers;

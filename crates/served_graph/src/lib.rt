@@ -5,6 +5,8 @@
 //! `ServedGraph` is a graph as a `State` of `versions`: `change` applies a batch, with one call of `graph_snap` for all edges
 //! to add and one for all to cut. Old versions stay as they were and share what they can with the new one. A call refuses only
 //! for want of memory.
+//!
+//! Tests: `served_tests`. Wrong bodies: here, in `wrong-bodies/`.
 #![tactic(auto)]
 
 mod cross;

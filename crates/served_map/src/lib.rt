@@ -5,6 +5,8 @@
 //! `Served` is a map as a `State` of `versions`. Few operations are done one by one in place; a long run between two wipes is
 //! made into one outcome for each key (`op_runs`), and these are done at once, by halves that fork where the cut allows it. Old
 //! versions stay as they were. A call refuses only for want of memory.
+//!
+//! Tests: `served_tests`. Wrong bodies: here, in `wrong-bodies/`.
 #![tactic(auto)]
 
 mod applying;

@@ -1,4 +1,6 @@
 //! Tests of the served map and the served graph: what operations leave, by hand and by chance, and a store of the map.
+//!
+//! Tests: here. Wrong bodies: none; a test promises nothing.
 #![tactic(auto)]
 
 #[cfg(test)]

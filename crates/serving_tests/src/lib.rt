@@ -1,4 +1,6 @@
 //! Tests of what serves versions to threads: logs, versions, the root and lanes.
+//!
+//! Tests: here. Wrong bodies: none; a test promises nothing.
 #![tactic(auto)]
 
 #[cfg(test)]

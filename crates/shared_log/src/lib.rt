@@ -4,6 +4,8 @@
 //!
 //! A push copies one page at most of each level and shares the rest: O(1), but for every 1024th push, which copies the row. A
 //! get looks into three levels, in O(1). A push refuses only for want of memory, and a log of 2^60 items counts as that.
+//!
+//! Tests: `serving_tests`. Wrong bodies: none here; `versions` proves its histories by these clauses.
 #![tactic(auto)]
 
 ghost use Rattle.std.specs.Prelude.{◌≡◌, ℕ, ◌<◌, ◌^◌, [], ◌∷◌, ◌++◌, length, slice_get, IfOk};
@@ -110,6 +112,7 @@ impl<T: Share> SharedLog<T> {
 impl<T: Share> Share for SharedLog<T> {
     ghost never_refuses = { ⊥ };
 
+    /// The same list, in O(1) and in the memory of this one.
     fn share(&self, alloc: Global) -> Result<SharedLog<T>, NoMemory> {
         Ok(SharedLog {
             len: self.len,

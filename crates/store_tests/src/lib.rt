@@ -1,4 +1,6 @@
 //! Tests of the store: turns and ends of rounds, refused changes, many callers in threads, and snapshots beside a turn.
+//!
+//! Tests: here. Wrong bodies: none; a test promises nothing.
 #![tactic(auto)]
 
 #[cfg(test)]

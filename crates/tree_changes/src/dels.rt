@@ -12,8 +12,8 @@ use tree_base::{BlockSize, Top, TreeOver};
 use tree_points::del;
 
 /// Removes a key, which the map need not have, in O(log n + B) time: in place at each node and block that has one owner and
-/// keeps its shape, and from the first one on that has not, or would not, as `del` does. After a refusal the map is as it
-/// was. It takes at most `64 * (height + 1) * (B + 2) + L::FIND` steps.
+/// keeps its shape, and from the first one on that has not, or would not, and from the node whose own entry it is, as `del`
+/// does. After a refusal the map is as it was. It takes at most `64 * (height + 1) * (B + 2) + L::FIND` steps.
 pub fn del_mut<A: Augment, L: LeafMut<A::Key, A::Val>, S: BlockSize, C: Ledger>(
     alloc: Global,
     tree: &mut TreeOver<A, L, S>,

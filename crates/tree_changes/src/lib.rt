@@ -3,6 +3,8 @@
 //! A map is a `Tree` of `tree_base`. As in PAM, a node or block is changed where it stands while nobody else owns it, and
 //! copied where somebody does: a copy of the map that was taken before stays as it was. A call refuses only for want of
 //! memory, and then the map is as it was.
+//!
+//! Tests: `tree_tests`, `work_tests`. Wrong bodies: here, in `wrong-bodies/`.
 #![tactic(auto)]
 
 mod blocks;

@@ -3,6 +3,8 @@
 //! These are calls of `tree_base` and `join_core` with a counter of their own, for callers that have no bound on steps to keep.
 //! `tree_of` takes its entries from a vector and moves them; `tree_of_slice` shares them. O(n) for n entries, and O(log n) for a
 //! join. A call refuses only for want of memory.
+//!
+//! Tests: `bulk_tests`. Wrong bodies: none here; `bulk_ops` and `batch_ops` prove theirs by these clauses.
 #![tactic(auto)]
 
 mod joining;

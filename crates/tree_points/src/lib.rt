@@ -2,6 +2,8 @@
 //!
 //! A map is a `Tree` of `tree_base`. A change copies the path to its key and one block, and shares the rest with its argument.
 //! A call refuses only for want of memory.
+//!
+//! Tests: `tree_tests`. Wrong bodies: none here; `aug_map` states these clauses again.
 #![tactic(auto)]
 
 mod dels;

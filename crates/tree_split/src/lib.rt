@@ -2,6 +2,8 @@
 //!
 //! A map is a `Tree` of `tree_base`. No call changes its arguments, and each answer shares what it can with them. A call
 //! refuses only for want of memory.
+//!
+//! Tests: `tree_tests`. Wrong bodies: none here; `aug_map` states these clauses again.
 #![tactic(auto)]
 
 mod exposing;

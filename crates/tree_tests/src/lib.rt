@@ -1,4 +1,6 @@
 //! Maps at concrete types, with blocks of 1, 2 and 32 entries at least.
+//!
+//! Tests: here. Wrong bodies: none; a test promises nothing.
 #![tactic(auto)]
 
 #[cfg(test)]

@@ -24,7 +24,7 @@ const STRIPES: u32 = 8;
 const WORDS: usize = 64;
 
 /// The writer and the readers of a new root, whose version has this base and an empty journal.
-/// It copies the base once for each of the `min(readers, 8)` stripes.
+/// It copies the base once for each of the `min(readers, 8)` stripes. O(readers) beside these copies.
 pub fn start<S: State>(
     alloc: Global,
     base: S,

@@ -73,7 +73,7 @@ impl<S: State> Model for Reader<S> {
 impl<S: State> Reader<S> {
     ghost use Rattle.version_root.specs.Answers.{Stays, Advances, Misses};
 
-    /// The reader's number, from 2 on.
+    /// The reader's number, from 2 on. O(1).
     pub fn number(&self) -> u64
         ensures { result ≡ self.now.number }
     {
@@ -82,6 +82,7 @@ impl<S: State> Reader<S> {
 
     /// The newest version, whose journal begins with all that this reader has seen.
     /// It tries the turn of its stripe once and never waits; `Busy` comes exactly where that one compare-exchange found it taken.
+    /// It takes the time of a share of a version: O(1), and before the first `publish` that of a share of the base.
     pub fn try_snapshot(&mut self, alloc: Global) -> Result<Version<S>, Missed>
         ensures same { Stays self.old self.new }
         ensures ok { IfOk result (λ version. (version ≡ history self.new.base self.new.seen) × Advances self.old self.new) }
@@ -96,7 +97,7 @@ impl<S: State> Reader<S> {
         Ok(copy?)
     }
 
-    /// The newest version, as by `try_snapshot`, as soon as the turn is free. It may wait.
+    /// The newest version, as by `try_snapshot`, as soon as the turn is free, and in its time for each time that it tries. It may wait.
     pub fn snapshot<R: Wait>(&mut self, rt: &R, alloc: Global) -> Result<Version<S>, NoMemory>
         ensures same { Stays self.old self.new }
         ensures seen { IsPrefix self.old.seen self.new.seen }
@@ -113,7 +114,7 @@ impl<S: State> Reader<S> {
         unreachable!()
     }
 
-    /// A notice of what this reader has seen, for another reader or the writer.
+    /// A notice of what this reader has seen, for another reader or the writer. O(1).
     pub fn note(&mut self) -> Result<Notice<S>, NoMemory>
         ensures same { self.new ≡ self.old }
         ensures notice { IfOk result (λ notice. notice ≡ record { root = self.old.root; base = self.old.base; seen = self.old.seen }) }
@@ -123,7 +124,7 @@ impl<S: State> Reader<S> {
         Ok(Notice { root, seat })
     }
 
-    /// Takes in a notice: from now on this reader sees no less than it tells of. It takes no memory.
+    /// Takes in a notice: from now on this reader sees no less than it tells of. O(1), and it takes no memory.
     pub fn learn(&mut self, notice: Notice<S>)
         requires { notice.root ≡ self.old.root }
         ensures same { Stays self.old self.new }

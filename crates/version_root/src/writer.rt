@@ -59,7 +59,7 @@ fn copies_of<S: State>(
 }
 
 impl<S: State> Writer<S> {
-    /// Lends the version of the writer's journal. It takes no memory.
+    /// Lends the version of the writer's journal. O(1), and it takes no memory.
     pub fn current(&self) -> &Version<S>
         ensures { result.now ≡ history self.now.base self.now.journal }
     {
@@ -67,7 +67,8 @@ impl<S: State> Writer<S> {
     }
 
     /// Makes the version that of the root, and its journal the writer's.
-    /// It makes a copy for every stripe before it takes a turn, so on a refusal the root is as before. It may wait for readers.
+    /// It makes a copy for every stripe (`Version::apart`), at most eight, before it takes a turn, so on a refusal the root is as
+    /// before. It may wait for readers.
     pub fn publish<R: Wait>(
         &mut self,
         rt: &R,
@@ -87,7 +88,7 @@ impl<S: State> Writer<S> {
         Ok(())
     }
 
-    /// A notice of the writer's journal, for a reader.
+    /// A notice of the writer's journal, for a reader. O(1).
     pub fn tell(&mut self) -> Result<Notice<S>, NoMemory>
         ensures same { self.new ≡ self.old }
         ensures notice { IfOk result (λ notice. notice ≡ record { root = self.old.root; base = self.old.base; seen = self.old.journal }) }
@@ -97,7 +98,7 @@ impl<S: State> Writer<S> {
         Ok(Notice { root, seat })
     }
 
-    /// Takes in a reader's notice: what it tells of is a beginning of the writer's journal. It takes no memory.
+    /// Takes in a reader's notice: what it tells of is a beginning of the writer's journal. O(1), and it takes no memory.
     pub fn take_in<R: Wait>(&mut self, _rt: &R, notice: Notice<S>)
         requires { notice.root ≡ self.old.root }
         ensures same { self.new ≡ self.old }

@@ -28,7 +28,7 @@ impl<O: Drop> Drop for Batch<O> {
 }
 
 impl<O: Share> Batch<O> {
-    /// A batch of these operations. It takes one small block, and copies nothing.
+    /// A batch of these operations, in O(1). It takes one small block, and copies nothing.
     pub fn new(alloc: Global, ops: Vec<O>) -> Result<Batch<O>, NoMemory>
         ensures { IfOk result (λ batch. batch ≡ ops.items) }
     {
@@ -37,7 +37,7 @@ impl<O: Share> Batch<O> {
         })
     }
 
-    /// Lends the operations.
+    /// Lends the operations, in O(1).
     pub fn ops(&self) -> &[O]
         ensures { result.now ≡ self.now }
     {
@@ -48,6 +48,7 @@ impl<O: Share> Batch<O> {
 impl<O: Share> Share for Batch<O> {
     ghost never_refuses = { ⊥ };
 
+    /// The same operations, in O(1) and in the memory of these.
     fn share(&self, _alloc: Global) -> Result<Batch<O>, NoMemory> {
         Ok(Batch {
             ops: Arc::try_clone(&self.ops)?,
@@ -66,6 +67,7 @@ pub struct Entry<O: Drop> {
 impl<O: Share> Share for Entry<O> {
     ghost never_refuses = { ⊥ };
 
+    /// The same entry, in O(1): its batch is shared.
     fn share(&self, alloc: Global) -> Result<Entry<O>, NoMemory> {
         Ok(Entry {
             caller: self.caller,

@@ -19,7 +19,7 @@ pub trait State: Share + Sized {
     ghost step: { Self → Self.Op → Self };
 
     /// The state after the operations of the batches in order. It may fork by `FreeGate` within the cut.
-    /// The answer depends on neither the runtime nor the cut.
+    /// The answer depends on neither the runtime nor the cut. Each state says what it takes.
     fn change<R: Threads + Sync>(
         &self,
         rt: &R,

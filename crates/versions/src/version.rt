@@ -61,7 +61,7 @@ impl<S: State> Drop for Version<S> {
 }
 
 impl<S: State> Version<S> {
-    /// The version with this base and an empty journal. It takes no memory and makes no copy.
+    /// The version with this base and an empty journal, in O(1). It takes no memory and makes no copy.
     pub fn first(base: S) -> Version<S>
         ensures { result ≡ history base [] }
     {
@@ -84,14 +84,14 @@ impl<S: State> Version<S> {
         }
     }
 
-    /// How many entries the journal has.
+    /// How many entries the journal has, in O(1).
     pub fn number(&self) -> u64
         ensures { result ≡ length self.now.journal }
     {
         self.parts().journal.len()
     }
 
-    /// Lends the state after the journal's operations.
+    /// Lends the state after the journal's operations, in O(1).
     pub fn state(&self) -> &S
         ensures { result.now ≡ state_of S.step self.now }
     {
@@ -102,14 +102,15 @@ impl<S: State> Version<S> {
         }
     }
 
-    /// Lends the journal.
+    /// Lends the journal, in O(1). It keeps every batch, so a version's memory grows with them and never gets less.
     pub fn journal(&self) -> &SharedLog<Entry<S::Op>>
         ensures { result.now ≡ self.now.journal }
     {
         &self.parts().journal
     }
 
-    /// The same version with parts of its own: those who share it count no owners together with those who share this one.
+    /// The same version with parts of its own: those who share it count no owners together with those who share this one. O(1),
+    /// beside the shares of the base and the state.
     pub fn apart(&self, alloc: Global) -> Result<Version<S>, NoMemory>
         ensures { IfOk result (λ version. version ≡ self.now) }
     {
@@ -122,7 +123,8 @@ impl<S: State> Version<S> {
     }
 
     /// The version with the same base, and with the entries at the end of the journal.
-    /// It applies the entries' operations alone, by the state's `apply`, and pushes one entry after another.
+    /// It applies the entries' operations alone, by the state's `apply`, and pushes one entry after another: O(1) an entry, as
+    /// `SharedLog::push`, beside what `apply` takes.
     pub fn extend<R: Threads + Sync, G: Gate>(
         &self,
         rt: &R,
@@ -190,7 +192,8 @@ impl<S: State> Share for Parts<S> {
 impl<S: State> Share for Version<S> {
     ghost never_refuses = { ⊥ };
 
-    /// The parts that `extend` made get one more owner. Of those that `first` made, each is shared.
+    /// The parts that `extend` made get one more owner, in O(1). Of those that `first` made, each is shared, in the time that a share
+    /// of the base takes.
     fn share(&self, alloc: Global) -> Result<Version<S>, NoMemory> {
         match &self.held {
             Held::Own(parts) => Ok(Version {

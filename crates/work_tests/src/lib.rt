@@ -1,4 +1,6 @@
 //! What calls of maps take, counted by keys, augmented values and tests of the callers, and which of them fork: no contract sees it.
+//!
+//! Tests: here. Wrong bodies: none; a test promises nothing.
 #![tactic(auto)]
 
 #[cfg(test)]
