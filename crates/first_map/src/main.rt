@@ -76,7 +76,7 @@ fn main(rt: HostRuntime) -> Result<()> {
     )?;
     let old = prices.share(alloc)?; // costs no more than a pointer
     prices.insert(alloc, 3, 30)?; // `old` has what it had
-    let now = prices.fold_range(alloc, &2, &4)?; // in O(log n)
+    let now = prices.fold_range(alloc, &2, &4)?; // made of stored folds
     let before = old.fold_range(alloc, &2, &4)?;
     println!(rt; "lowest of days 2 to 4: {now}, before {before}")?;
     Ok(())

@@ -1,4 +1,4 @@
-//! Ordered maps on one thread, with the names of the standard library's map.
+//! Ordered maps on one thread, whose calls are named after those of the standard library's maps and sets.
 //!
 //! An `OrdMap` is a map of `aug_map` in plain blocks of 32 to 64 entries. Its calls count no steps and start no thread, and want
 //! nothing but the allocator. Contracts see it as its entries in the order of their keys. A share of a map costs no more than a
