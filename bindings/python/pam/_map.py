@@ -1,0 +1,539 @@
+"""Maps from 64-bit numbers to 64-bit numbers."""
+import array
+import operator
+from collections.abc import ItemsView, Iterable, Iterator, KeysView, Mapping, MutableMapping, ValuesView
+from typing import Any, Optional, Tuple, Union
+
+from . import _library as library
+from ._arrays import LIMIT, Numbers, lent, lent_bytes, number, zeros
+from ._library import BAD_CALL, NO_ROOM, NOT_A_MAP, NOT_THERE, OK, Held, MapHandle, Number, check, lib
+
+LAST = LIMIT - 1
+FIRST_BLOCK, LARGEST_BLOCK = 32, 4096
+_MISSING: Any = object()
+
+
+def _closed(lo: Optional[int], hi: Optional[int]) -> Optional[Tuple[int, int]]:
+    """The keys from lo up to hi as a least and a greatest key; None where no key is in between."""
+    least = 0 if lo is None else max(operator.index(lo), 0)
+    greatest = LAST if hi is None else min(operator.index(hi), LIMIT) - 1
+    return (least, greatest) if least <= greatest else None
+
+
+def _resolution(how: str) -> int:
+    try:
+        return library.RESOLUTIONS[how]
+    except KeyError:
+        raise ValueError(f"how is one of {', '.join(library.RESOLUTIONS)}, not {how!r}") from None
+
+
+def _two_arrays(keys: Numbers, vals: Numbers):
+    """Two arrays as four arguments."""
+    keys, vals = lent(keys), lent(vals)
+    if keys.length != vals.length:
+        raise ValueError(f"{keys.length} keys and {vals.length} values")
+    return (*keys, *vals)
+
+
+class Map(Held, MutableMapping):  # type: ignore[type-arg]
+    """A sorted map of ints from 0 to 2**64 - 1, with the sum and the greatest of the values of any range of keys in O(log n).
+
+    It has the methods of dict and of sortedcontainers' SortedDict. Copies, parts and set operations share memory, and no change
+    of one map is seen in another. Costs are in the number n of entries.
+
+    >>> m = Map({3: 30, 1: 10, 2: 20})
+    >>> list(m), m[2], m.sum(1, 3)
+    ([1, 2, 3], 20, 30)
+
+    Keys of another kind than int are a TypeError. An int beyond 64 bits is no key of any map, and an OverflowError where it is to
+    be put. Parts are half-open, as ranges and slices are.
+    """
+
+    _Handle, _prefix = MapHandle, "pam_map_"
+
+    def __init__(self, source: Union[Mapping, Iterable[Tuple[int, int]]] = (), /) -> None:
+        """The map of a mapping or of pairs, of which a later one of a key wins. O(n log n).
+
+        >>> Map([(1, 10), (2, 20), (1, 11)])
+        Map({1: 11, 2: 20})
+        """
+        if isinstance(source, Map):
+            check(lib.pam_map_share(source._handle, self._handle))
+        else:
+            self._build(*self._columns(source))
+
+    @staticmethod
+    def _columns(source: Any):
+        keys, vals = array.array("Q"), array.array("Q")
+        for key, val in source.items() if isinstance(source, Mapping) else source:
+            keys.append(key)
+            vals.append(val)
+        return keys, vals
+
+    def _build(self, keys: Numbers, vals: Numbers) -> None:
+        status = lib.pam_map_build(self._handle, *_two_arrays(keys, vals))
+        if status == BAD_CALL:
+            raise ValueError("pam: it was built before")
+        check(status)
+
+    # Arrays
+
+    @classmethod
+    def from_arrays(cls, keys: Numbers, vals: Numbers) -> "Map":
+        """The map of two arrays of one length: array.array('Q'), NumPy's uint64, memoryviews of these, or any ints. O(n log n),
+        and O(n) where the keys rise.
+
+        >>> from array import array
+        >>> Map.from_arrays(array("Q", [2, 1]), array("Q", [20, 10]))
+        Map({1: 10, 2: 20})
+        """
+        out = cls._empty()
+        out._build(keys, vals)
+        return out
+
+    def put_many(self, keys: Numbers, vals: Numbers) -> None:
+        """Puts arrays as from_arrays takes them; a later pair of a key wins. O(m log(n + m)) for m pairs.
+
+        >>> m = Map({1: 10})
+        >>> m.put_many([2, 1], [20, 11])
+        >>> m
+        Map({1: 11, 2: 20})
+        """
+        check(lib.pam_map_put_many(self._handle, *_two_arrays(keys, vals)))
+
+    def get_many(self, keys: Numbers) -> "Tuple[array.array[int], bytearray]":
+        """The values at keys, 0 where one is absent, and a byte for each that is 1 where it is there. O(m log n) for m keys.
+
+        >>> Map({1: 10, 2: 20}).get_many([2, 5])
+        (array('Q', [20, 0]), bytearray(b'\\x01\\x00'))
+        """
+        keys = lent(keys)
+        vals, present = zeros(keys.length), bytearray(keys.length)
+        check(lib.pam_map_get_many(self._handle, *keys, *lent(vals), *lent_bytes(present)))
+        return vals, present
+
+    def del_many(self, keys: Numbers) -> None:
+        """Removes keys, which need not be there. O(m log(n + m)) for m keys.
+
+        >>> m = Map({1: 10, 2: 20})
+        >>> m.del_many([1, 7])
+        >>> m
+        Map({2: 20})
+        """
+        check(lib.pam_map_del_many(self._handle, *lent(keys)))
+
+    def items_arrays(self, lo: Optional[int] = None, hi: Optional[int] = None) -> "Tuple[array.array[int], array.array[int]]":
+        """The keys from lo up to hi and their values, as two arrays in the order of keys. O(log n + m) for m entries.
+
+        >>> Map({1: 10, 2: 20, 3: 30}).items_arrays(2)
+        (array('Q', [2, 3]), array('Q', [20, 30]))
+        """
+        ends = _closed(lo, hi)
+        if ends is None:
+            return self._filled(0, 0)
+        return self._filled(ends[0], self.bisect_right(ends[1]) - self._rank(ends[0]))
+
+    def keys_array(self, lo: Optional[int] = None, hi: Optional[int] = None) -> "array.array[int]":
+        """The keys from lo up to hi, in order. O(log n + m) for m of them.
+
+        >>> Map({2: 20, 1: 10}).keys_array()
+        array('Q', [1, 2])
+        """
+        return self.items_arrays(lo, hi)[0]
+
+    def _filled(self, first: int, count: int):
+        """The first entries with keys at least first, which has to have so many."""
+        keys, vals, found = zeros(count), zeros(count), Number()
+        check(lib.pam_map_fill(self._handle, first, *lent(keys), *lent(vals), found))
+        return keys, vals
+
+    # Single entries
+
+    def _find(self, key: int) -> Optional[int]:
+        key = operator.index(key)
+        val = Number()
+        status = lib.pam_map_get(self._handle, key, val) if 0 <= key < LIMIT else NOT_THERE
+        if status == OK:
+            return val.value
+        if status != NOT_THERE:
+            check(status)
+        return None
+
+    def __getitem__(self, key):
+        """m[key] is the value at a key, or KeyError; m[lo:hi] the map of the entries with keys from lo up to hi. O(log n).
+
+        >>> m = Map({1: 10, 2: 20, 3: 30})
+        >>> m[2], m[2:].sum(), m[:3].max()
+        (20, 50, 20)
+        """
+        if isinstance(key, slice):
+            return self._part(key)
+        val = self._find(key)
+        if val is None:
+            raise KeyError(key)
+        return val
+
+    def get(self, key: int, default: Any = None) -> Any:
+        """The value at a key, or the default. O(log n)."""
+        val = self._find(key)
+        return default if val is None else val
+
+    def __contains__(self, key: object) -> bool:
+        return self._find(key) is not None  # type: ignore[arg-type]
+
+    def __setitem__(self, key: int, val: int) -> None:
+        """Sets a key to a value. O(log n)."""
+        status = lib.pam_map_put(self._handle, number(key), number(val))
+        if status:
+            check(status)
+
+    def __delitem__(self, key) -> None:
+        """del m[key] removes a key, or raises KeyError; del m[lo:hi] removes those from lo up to hi. O(log n).
+
+        >>> m = Map({1: 10, 2: 20, 3: 30, 4: 40})
+        >>> del m[1], m[3:]
+        >>> m
+        Map({2: 20})
+        """
+        if isinstance(key, slice):
+            self._cut(key)
+            return
+        found = operator.index(key)
+        status = lib.pam_map_del(self._handle, found) if 0 <= found < LIMIT else NOT_THERE
+        if status == NOT_THERE:
+            raise KeyError(key)
+        check(status)
+
+    def update(self, other: Union[Mapping, Iterable[Tuple[int, int]]] = (), /) -> None:  # type: ignore[override]
+        """Puts all entries of a map, a mapping or pairs. O(m log(n / m + 1)) for a Map of m entries, m at most n.
+
+        >>> m = Map({1: 10})
+        >>> m.update({1: 11, 2: 20})
+        >>> m
+        Map({1: 11, 2: 20})
+        """
+        if isinstance(other, Map):
+            self._take_over(self.union(other))
+        else:
+            self.put_many(*self._columns(other))
+
+    def clear(self) -> None:
+        """Removes all. O(n), or O(1) where copies have all of it."""
+        del self[:]
+
+    # Order
+
+    def peekitem(self, index: int = -1) -> Tuple[int, int]:
+        """The key and the value at a place in the order of keys, from the end where it is negative. O(log n).
+
+        >>> m = Map({1: 10, 2: 20, 3: 30})
+        >>> m.peekitem(), m.peekitem(0)
+        ((3, 30), (1, 10))
+        """
+        place = operator.index(index)
+        size = len(self)
+        if place < 0:
+            place += size
+        if not 0 <= place < size:
+            raise IndexError("map index out of range")
+        return self._select(place)
+
+    def _select(self, place: int) -> Tuple[int, int]:
+        key, val = Number(), Number()
+        check(lib.pam_map_select(self._handle, place, key, val))
+        return key.value, val.value
+
+    def popitem(self, index: int = -1) -> Tuple[int, int]:
+        """Removes and answers the entry at a place, the last one if none is named; KeyError where the map is empty. O(log n).
+
+        >>> m = Map({1: 10, 2: 20})
+        >>> m.popitem(), m
+        ((2, 20), Map({1: 10}))
+        """
+        if not len(self):
+            raise KeyError("popitem(): map is empty")
+        entry = self.peekitem(index)
+        del self[entry[0]]
+        return entry
+
+    def bisect_left(self, key: int) -> int:
+        """How many keys are less than a key. O(log n).
+
+        >>> m = Map({1: 10, 3: 30})
+        >>> m.bisect_left(3), m.bisect_right(3), m.bisect(2)
+        (1, 2, 1)
+        """
+        key = operator.index(key)
+        if key >= LIMIT:
+            return len(self)
+        return self._rank(max(key, 0))
+
+    def bisect_right(self, key: int) -> int:
+        """How many keys are at most a key. O(log n)."""
+        return self.bisect_left(operator.index(key) + 1)
+
+    bisect = bisect_right
+
+    def _rank(self, key: int) -> int:
+        place = Number()
+        check(lib.pam_map_rank(self._handle, key, place))
+        return place.value
+
+    def next_item(self, key: int) -> Optional[Tuple[int, int]]:
+        """The entry with the least key that is greater, if there is one. O(log n).
+
+        >>> m = Map({1: 10, 3: 30})
+        >>> m.next_item(1), m.next_item(3), m.prev_item(3)
+        ((3, 30), None, (1, 10))
+        """
+        place = self.bisect_right(key)
+        return self._select(place) if place < len(self) else None
+
+    def prev_item(self, key: int) -> Optional[Tuple[int, int]]:
+        """The entry with the greatest key that is less, if there is one. O(log n)."""
+        place = self.bisect_left(key)
+        return self._select(place - 1) if place else None
+
+    # Sums
+
+    def _fold(self, lo: Optional[int], hi: Optional[int]) -> Tuple[int, int]:
+        total, greatest = Number(), Number()
+        if lo is None and hi is None:
+            check(lib.pam_map_fold(self._handle, total, greatest))
+            return total.value, greatest.value
+        ends = _closed(lo, hi)
+        # A range with no keys is asked as one that none is in, so that a closed map is found.
+        check(lib.pam_map_fold_range(self._handle, *(ends or (1, 0)), total, greatest))
+        return total.value, greatest.value
+
+    def sum(self, lo: Optional[int] = None, hi: Optional[int] = None) -> int:
+        """The sum of the values at keys from lo up to hi; it stays at 2**64 - 1 where it would be more. O(log n), O(1) for all.
+
+        >>> Map({1: 10, 2: 20, 3: 30}).sum(2, 4)
+        50
+        """
+        return self._fold(lo, hi)[0]
+
+    def max(self, lo: Optional[int] = None, hi: Optional[int] = None, *, default: Any = _MISSING) -> Any:
+        """The greatest of the values at keys from lo up to hi; where there are none the default, or ValueError. O(log n).
+
+        >>> m = Map({1: 10, 2: 20, 3: 5})
+        >>> m.max(), m.max(3), m.max(7, default=0)
+        (20, 5, 0)
+        """
+        greatest = self._fold(lo, hi)[1]
+        if greatest or self._any(lo, hi):
+            return greatest
+        if default is _MISSING:
+            raise ValueError("max() of a part with no entries")
+        return default
+
+    def _any(self, lo: Optional[int], hi: Optional[int]) -> bool:
+        ends = _closed(lo, hi)
+        return ends is not None and self._rank(ends[0]) < self.bisect_right(ends[1])
+
+    # Parts and set operations
+
+    def _part(self, part: slice) -> "Map":
+        if part.step is not None:
+            raise ValueError("a slice of a map has no step")
+        ends = _closed(part.start, part.stop)
+        out = self._empty()
+        check(lib.pam_map_range(self._handle, *(ends or (1, 0)), out._handle))
+        return out
+
+    def _cut(self, part: slice) -> None:
+        if part.step is not None:
+            raise ValueError("a slice of a map has no step")
+        ends = _closed(part.start, part.stop)
+        if ends is not None:
+            self._take_over(self[: ends[0]].union(self[ends[1] + 1 :]))
+
+    def split(self, key: int) -> Tuple["Map", "Map"]:
+        """The map of the entries with lesser keys, and that of the others. O(log n).
+
+        >>> Map({1: 10, 2: 20, 3: 30}).split(2)
+        (Map({1: 10}), Map({2: 20, 3: 30}))
+        """
+        return self[:key], self[key:]
+
+    def union(self, other: "Map", how: str = "second") -> "Map":
+        """The entries of either map. At a key of both `how` says which value: that of the `first`, of the `second` (as dict's
+        `|`), their `sum` (at most 2**64 - 1) or the greater, `max`. O(m log(n / m + 1)) for m and n entries, m at most n.
+
+        >>> a, b = Map({1: 10, 2: 20}), Map({2: 5})
+        >>> a.union(b, how="sum"), a | b
+        (Map({1: 10, 2: 25}), Map({1: 10, 2: 5}))
+        """
+        return self._joined(lib.pam_map_union, other, _resolution(how))
+
+    def intersection(self, other: "Map", how: str = "first") -> "Map":
+        """The entries whose keys both maps have, with the value that `how` says, in the time of union. `a & b` has a's values.
+
+        >>> Map({1: 10, 2: 20}).intersection(Map({2: 5, 3: 30}))
+        Map({2: 20})
+        """
+        return self._joined(lib.pam_map_intersection, other, _resolution(how))
+
+    def difference(self, other: "Map") -> "Map":
+        """The entries whose keys the other map hasn't, in the time of union. `a - b` is the same.
+
+        >>> Map({1: 10, 2: 20}) - Map({2: 5})
+        Map({1: 10})
+        """
+        return self._joined(lib.pam_map_difference, other)
+
+    def _joined(self, call: Any, other: "Map", *how: int) -> "Map":
+        if not isinstance(other, Map):
+            raise TypeError(f"wanted a Map, not {type(other).__name__}")
+        out = self._empty()
+        check(call(self._handle, other._handle, *how, out._handle))
+        return out
+
+    def __or__(self, other: "Map") -> "Map":
+        return self.union(other) if isinstance(other, Map) else NotImplemented
+
+    def __and__(self, other: "Map") -> "Map":
+        return self.intersection(other) if isinstance(other, Map) else NotImplemented
+
+    def __sub__(self, other: "Map") -> "Map":
+        return self.difference(other) if isinstance(other, Map) else NotImplemented
+
+    def __ior__(self, other: Any) -> "Map":  # type: ignore[misc]
+        self.update(other)
+        return self
+
+    # Walks, each over a snapshot: the map may be changed meanwhile, and the walk does not see it
+
+    def _blocks(self, least: int, greatest: int, backwards: bool = False):
+        """Arrays of keys and values, from the least to the greatest key, in blocks that grow."""
+        start, stop, most = self._rank(least), self.bisect_right(greatest), FIRST_BLOCK
+        while start < stop:
+            count = min(most, stop - start)
+            if backwards:
+                stop -= count
+            keys, vals = self._filled(self._select(stop if backwards else start)[0], count)
+            if backwards:
+                keys.reverse()
+                vals.reverse()
+            else:
+                start += count
+            yield keys, vals
+            most = min(2 * most, LARGEST_BLOCK)
+
+    def _walk(self, part: int, lo: int = 0, hi: int = LAST, backwards: bool = False) -> Iterator[int]:
+        blocks = self.copy()._blocks(lo, hi, backwards)
+        return (found for block in blocks for found in block[part])
+
+    def __iter__(self) -> Iterator[int]:
+        return self._walk(0)
+
+    def __reversed__(self) -> Iterator[int]:
+        return self._walk(0, backwards=True)
+
+    def keys(self) -> KeysView:
+        return _Keys(self)
+
+    def values(self) -> ValuesView:
+        return _Values(self)
+
+    def items(self) -> ItemsView:
+        return _Items(self)
+
+    def irange(
+        self,
+        minimum: Optional[int] = None,
+        maximum: Optional[int] = None,
+        inclusive: Tuple[bool, bool] = (True, True),
+        reverse: bool = False,
+    ) -> Iterator[int]:
+        """The keys from a least to a greatest one, as sortedcontainers' irange: both included unless `inclusive` says otherwise.
+        O(log n + m) for m keys.
+
+        >>> m = Map((k, 0) for k in range(10))
+        >>> list(m.irange(2, 5)), list(m.irange(7, reverse=True))
+        ([2, 3, 4, 5], [9, 8, 7])
+        """
+        lo = None if minimum is None else operator.index(minimum) + (not inclusive[0])
+        hi = None if maximum is None else operator.index(maximum) + bool(inclusive[1])
+        ends = _closed(lo, hi)
+        return self._walk(0, *ends, backwards=reverse) if ends else iter(())
+
+    # Bytes, and what is compared and shown
+
+    def to_bytes(self) -> bytes:
+        """The map as bytes; equal maps give equal bytes. O(n).
+
+        >>> m = Map({1: 10})
+        >>> Map.from_bytes(m.to_bytes()) == m
+        True
+        """
+        room, needed = 64 + 20 * len(self), Number()
+        while True:
+            out = bytearray(room)
+            status = lib.pam_map_bytes(self._handle, *lent_bytes(out), needed)
+            if status != NO_ROOM:
+                check(status)
+                return bytes(memoryview(out)[: needed.value])
+            room = needed.value
+
+    @classmethod
+    def from_bytes(cls, data: Any) -> "Map":
+        """The map of bytes that to_bytes wrote; ValueError for any others. O(n)."""
+        out = cls._empty()
+        status = lib.pam_map_from_bytes(out._handle, *lent_bytes(data))
+        if status == NOT_A_MAP:
+            raise ValueError("not the bytes of a map")
+        check(status)
+        return out
+
+    def __reduce__(self):
+        return type(self).from_bytes, (self.to_bytes(),)
+
+    def __eq__(self, other: Any) -> Any:
+        if not isinstance(other, Map):
+            return dict(self.items()) == dict(other.items()) if isinstance(other, Mapping) else NotImplemented
+        if len(self) != len(other):
+            return False
+        pairs = zip(self._blocks(0, LAST), other._blocks(0, LAST))
+        return all(mine == theirs for mine, theirs in pairs)
+
+    __hash__ = None  # type: ignore[assignment]
+
+    def __repr__(self) -> str:
+        keys, vals = self._filled(0, min(len(self), 10))
+        shown = [f"{key}: {val}" for key, val in zip(keys, vals)]
+        more = ", ..." if len(self) > len(shown) else ""
+        return f"{type(self).__name__}({{{', '.join(shown)}{more}}})"
+
+
+class _Keys(KeysView):  # type: ignore[type-arg]
+    _mapping: Map
+
+    def __reversed__(self) -> Iterator[int]:
+        return reversed(self._mapping)
+
+
+class _Values(ValuesView):  # type: ignore[type-arg]
+    _mapping: Map
+
+    def __iter__(self) -> Iterator[int]:
+        return self._mapping._walk(1)
+
+    def __reversed__(self) -> Iterator[int]:
+        return self._mapping._walk(1, backwards=True)
+
+    def __contains__(self, val: object) -> bool:
+        return any(val == found for found in self)
+
+
+class _Items(ItemsView):  # type: ignore[type-arg]
+    _mapping: Map
+
+    def __iter__(self) -> Iterator[Tuple[int, int]]:
+        blocks = self._mapping.copy()._blocks(0, LAST)
+        return (entry for keys, vals in blocks for entry in zip(keys, vals))
+
+    def __reversed__(self) -> Iterator[Tuple[int, int]]:
+        blocks = self._mapping.copy()._blocks(0, LAST, backwards=True)
+        return (entry for keys, vals in blocks for entry in zip(keys, vals))

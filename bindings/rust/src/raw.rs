@@ -1,0 +1,187 @@
+//! The calls of `pam.h`, and handles that are freed once.
+use crate::NoMemory;
+use std::cell::UnsafeCell;
+use std::ffi::c_void;
+use std::ptr;
+
+pub const OK: u8 = 0;
+pub const NOT_THERE: u8 = 1;
+pub const NO_ROOM: u8 = 2;
+pub const NOT_A_MAP: u8 = 3;
+pub const NO_MEMORY: u8 = 7;
+
+/// A handle of C: zeros are closed.
+#[repr(C)]
+pub struct Raw {
+    at: *mut c_void,
+    state: u64,
+}
+
+/// What the kinds of handles have in common.
+pub trait Kind {
+    const NEW: unsafe extern "C" fn(*mut Raw) -> u8;
+    const FREE: unsafe extern "C" fn(*mut Raw) -> u8;
+    const SHARE: unsafe extern "C" fn(*const Raw, *mut Raw) -> u8;
+    const LEN: unsafe extern "C" fn(*const Raw, *mut u64) -> u8;
+}
+
+pub struct MapKind;
+pub struct SeqKind;
+pub struct IntervalsKind;
+
+/// An open handle. The library may write to it even where it reads, hence the cell, which makes it not `Sync` too.
+pub struct Handle<K: Kind> {
+    raw: UnsafeCell<Raw>,
+    kind: std::marker::PhantomData<K>,
+}
+
+// SAFETY: the library keeps nothing of a thread, and counts the owners of shared memory atomically.
+unsafe impl<K: Kind> Send for Handle<K> {}
+
+impl<K: Kind> Handle<K> {
+    /// The handle that a call opens.
+    pub fn opened(call: impl FnOnce(*mut Raw) -> u8) -> Result<Self, u8> {
+        let raw = UnsafeCell::new(Raw { at: ptr::null_mut(), state: 0 });
+        let handle = Handle { raw, kind: std::marker::PhantomData };
+        match call(handle.as_mut_ptr()) {
+            OK => Ok(handle),
+            status => Err(status),
+        }
+    }
+
+    pub fn new() -> Result<Self, NoMemory> {
+        // SAFETY: a closed handle.
+        Self::opened(|out| unsafe { K::NEW(out) }).map_err(no_memory)
+    }
+
+    pub fn share(&self) -> Result<Self, NoMemory> {
+        // SAFETY: an open handle, and a closed one.
+        Self::opened(|out| unsafe { K::SHARE(self.as_ptr(), out) }).map_err(no_memory)
+    }
+
+    pub fn len(&self) -> u64 {
+        let mut len = 0;
+        // SAFETY: an open handle.
+        sure(unsafe { K::LEN(self.as_ptr(), &mut len) });
+        len
+    }
+
+    pub fn as_ptr(&self) -> *const Raw {
+        self.raw.get()
+    }
+
+    pub fn as_mut_ptr(&self) -> *mut Raw {
+        self.raw.get()
+    }
+}
+
+impl<K: Kind> Drop for Handle<K> {
+    fn drop(&mut self) {
+        // SAFETY: an open handle, or a closed one, which stays closed.
+        unsafe { K::FREE(self.as_mut_ptr()) };
+    }
+}
+
+/// The error of a call that may want memory, and nothing else.
+pub fn no_memory(status: u8) -> NoMemory {
+    assert_eq!(status, NO_MEMORY, "pam: a call was refused");
+    NoMemory
+}
+
+/// Whether a call that may want memory did it.
+pub fn done(status: u8) -> Result<(), NoMemory> {
+    match status {
+        OK => Ok(()),
+        status => Err(no_memory(status)),
+    }
+}
+
+/// A call that can't be refused.
+pub fn sure(status: u8) {
+    assert_eq!(status, OK, "pam: a call was refused");
+}
+
+/// Whether something was there, for a call that can't be refused otherwise.
+pub fn there(status: u8) -> bool {
+    match status {
+        NOT_THERE => false,
+        status => {
+            sure(status);
+            true
+        }
+    }
+}
+
+macro_rules! kinds {
+    ($($kind:ident: $new:ident $free:ident $share:ident $len:ident;)*) => {
+        extern "C" {
+            $(
+                fn $new(out: *mut Raw) -> u8;
+                fn $free(handle: *mut Raw) -> u8;
+                fn $share(handle: *const Raw, out: *mut Raw) -> u8;
+                fn $len(handle: *const Raw, len: *mut u64) -> u8;
+            )*
+        }
+        $(
+            impl Kind for $kind {
+                const NEW: unsafe extern "C" fn(*mut Raw) -> u8 = $new;
+                const FREE: unsafe extern "C" fn(*mut Raw) -> u8 = $free;
+                const SHARE: unsafe extern "C" fn(*const Raw, *mut Raw) -> u8 = $share;
+                const LEN: unsafe extern "C" fn(*const Raw, *mut u64) -> u8 = $len;
+            }
+        )*
+    };
+}
+
+kinds! {
+    MapKind: pam_map_new pam_map_free pam_map_share pam_map_len;
+    SeqKind: pam_seq_new pam_seq_free pam_seq_share pam_seq_len;
+    IntervalsKind: pam_intervals_new pam_intervals_free pam_intervals_share pam_intervals_len;
+}
+
+extern "C" {
+    pub fn pam_map_get(m: *const Raw, key: u64, val: *mut u64) -> u8;
+    pub fn pam_map_put(m: *mut Raw, key: u64, val: u64) -> u8;
+    pub fn pam_map_del(m: *mut Raw, key: u64) -> u8;
+    pub fn pam_map_fold(m: *const Raw, sum: *mut u64, greatest: *mut u64) -> u8;
+    pub fn pam_map_fold_range(m: *const Raw, lo: u64, hi: u64, sum: *mut u64, greatest: *mut u64) -> u8;
+    pub fn pam_map_rank(m: *const Raw, key: u64, rank: *mut u64) -> u8;
+    pub fn pam_map_select(m: *const Raw, at: u64, key: *mut u64, val: *mut u64) -> u8;
+    pub fn pam_map_next(m: *const Raw, from: u64, key: *mut u64, val: *mut u64) -> u8;
+    pub fn pam_map_prev(m: *const Raw, from: u64, key: *mut u64, val: *mut u64) -> u8;
+    pub fn pam_map_first(m: *const Raw, key: *mut u64, val: *mut u64) -> u8;
+    pub fn pam_map_last(m: *const Raw, key: *mut u64, val: *mut u64) -> u8;
+    pub fn pam_map_union(a: *const Raw, b: *const Raw, how: u8, out: *mut Raw) -> u8;
+    pub fn pam_map_intersection(a: *const Raw, b: *const Raw, how: u8, out: *mut Raw) -> u8;
+    pub fn pam_map_difference(a: *const Raw, b: *const Raw, out: *mut Raw) -> u8;
+    pub fn pam_map_split(m: *const Raw, key: u64, below: *mut Raw, from: *mut Raw) -> u8;
+    pub fn pam_map_range(m: *const Raw, lo: u64, hi: u64, out: *mut Raw) -> u8;
+    pub fn pam_map_fill(m: *const Raw, from: u64, keys: *mut u64, keys_len: usize, vals: *mut u64, vals_len: usize, count: *mut u64) -> u8;
+    pub fn pam_map_build(m: *mut Raw, keys: *const u64, keys_len: usize, vals: *const u64, vals_len: usize) -> u8;
+    pub fn pam_map_put_many(m: *mut Raw, keys: *const u64, keys_len: usize, vals: *const u64, vals_len: usize) -> u8;
+    pub fn pam_map_get_many(m: *const Raw, keys: *const u64, keys_len: usize, vals: *mut u64, vals_len: usize, present: *mut u8, present_len: usize) -> u8;
+    pub fn pam_map_del_many(m: *mut Raw, keys: *const u64, keys_len: usize) -> u8;
+    pub fn pam_map_bytes(m: *const Raw, out: *mut u8, room: usize, needed: *mut u64) -> u8;
+    pub fn pam_map_from_bytes(m: *mut Raw, bytes: *const u8, len: usize) -> u8;
+
+    pub fn pam_seq_get(s: *const Raw, place: u64, item: *mut u64) -> u8;
+    pub fn pam_seq_set(s: *mut Raw, place: u64, item: u64) -> u8;
+    pub fn pam_seq_push(s: *mut Raw, item: u64) -> u8;
+    pub fn pam_seq_push_many(s: *mut Raw, items: *const u64, len: usize) -> u8;
+    pub fn pam_seq_build(s: *mut Raw, items: *const u64, len: usize) -> u8;
+    pub fn pam_seq_append(a: *const Raw, b: *const Raw, out: *mut Raw) -> u8;
+    pub fn pam_seq_take(s: *const Raw, count: u64, out: *mut Raw) -> u8;
+    pub fn pam_seq_skip(s: *const Raw, count: u64, out: *mut Raw) -> u8;
+    pub fn pam_seq_reverse(s: *const Raw, out: *mut Raw) -> u8;
+    pub fn pam_seq_fold(s: *const Raw, sum: *mut u64, greatest: *mut u64) -> u8;
+    pub fn pam_seq_fold_range(s: *const Raw, from: u64, count: u64, sum: *mut u64, greatest: *mut u64) -> u8;
+    pub fn pam_seq_fill(s: *const Raw, from: u64, items: *mut u64, len: usize, count: *mut u64) -> u8;
+
+    pub fn pam_intervals_add(s: *mut Raw, left: u64, right: u64) -> u8;
+    pub fn pam_intervals_del(s: *mut Raw, left: u64, right: u64) -> u8;
+    pub fn pam_intervals_any(s: *const Raw, point: u64) -> u8;
+    pub fn pam_intervals_build(s: *mut Raw, lefts: *const u64, lefts_len: usize, rights: *const u64, rights_len: usize) -> u8;
+    pub fn pam_intervals_stab(s: *const Raw, point: u64, lefts: *mut u64, lefts_len: usize, rights: *mut u64, rights_len: usize, count: *mut u64) -> u8;
+    pub fn pam_intervals_overlapping(s: *const Raw, lo: u64, hi: u64, lefts: *mut u64, lefts_len: usize, rights: *mut u64, rights_len: usize, count: *mut u64) -> u8;
+    pub fn pam_intervals_fill(s: *const Raw, from_left: u64, from_right: u64, lefts: *mut u64, lefts_len: usize, rights: *mut u64, rights_len: usize, count: *mut u64) -> u8;
+}
