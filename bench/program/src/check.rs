@@ -1,22 +1,7 @@
 //! Whether a text is that of a lawful run of serve, on lawful records and lines.
+use bench_common::{answer, apply, last_line, op, query, Act, Input, Op, Query};
 use std::collections::{BTreeMap, HashMap};
 use std::str;
-
-#[derive(Clone, Copy)]
-enum Op {
-    Put(u64, u64),
-    Del(u64),
-    Add(u64, u64),
-    Wipe(u64, u64),
-}
-
-#[derive(Clone, Copy)]
-enum Query {
-    Get(u64),
-    Sum(u64, u64),
-    Rank(u64),
-    Size,
-}
 
 struct Batch {
     caller: usize,
@@ -25,7 +10,7 @@ struct Batch {
 }
 
 struct Read {
-    place: usize,
+    place: u64,
     caller: usize,
     round: usize,
     query: Query,
@@ -34,64 +19,23 @@ struct Read {
 /// The records of an input: batches by their records' numbers, and reads in order.
 struct Records {
     callers: usize,
-    batches: HashMap<usize, Batch>,
+    batches: HashMap<u64, Batch>,
     reads: Vec<Read>,
     // how many batches the rounds up to and with each have
     counts: Vec<usize>,
 }
 
-fn number(word: &str) -> u64 {
-    word.parse().expect("a number")
-}
-
-fn ops(words: &[&str]) -> Vec<Op> {
-    let mut list = Vec::new();
-    let mut at = 0;
-    while at < words.len() {
-        let (op, taken) = match words[at] {
-            "put" => (Op::Put(number(words[at + 1]), number(words[at + 2])), 3),
-            "del" => (Op::Del(number(words[at + 1])), 2),
-            "add" => (Op::Add(number(words[at + 1]), number(words[at + 2])), 3),
-            _ => (Op::Wipe(number(words[at + 1]), number(words[at + 2])), 3),
-        };
-        list.push(op);
-        at += taken;
-    }
-    list
-}
-
-fn query(words: &[&str]) -> Query {
-    match words[0] {
-        "get" => Query::Get(number(words[1])),
-        "sum" => Query::Sum(number(words[1]), number(words[2])),
-        "rank" => Query::Rank(number(words[1])),
-        _ => Query::Size,
-    }
-}
-
-fn records(text: &str) -> Records {
-    let mut found = Records { callers: 1, batches: HashMap::new(), reads: Vec::new(), counts: vec![0] };
-    let mut round = 0;
-    for (index, line) in text.lines().enumerate() {
-        let words: Vec<&str> = line.split(',').collect();
-        match words[0] {
-            "serve" => found.callers = number(words[1]) as usize,
-            "b" => {
-                found.counts[round] += 1;
-                let batch = Batch { caller: number(words[1]) as usize, round, ops: ops(&words[2..]) };
-                found.batches.insert(index + 1, batch);
-            }
-            "r" => found.reads.push(Read {
-                place: index + 1,
-                caller: number(words[1]) as usize,
-                round,
-                query: query(&words[2..]),
-            }),
-            _ => {
-                round += 1;
-                found.counts.push(found.counts[round - 1]);
+fn records(input: Input<Op, Query>) -> Records {
+    let mut found = Records { callers: input.callers, batches: HashMap::new(), reads: Vec::new(), counts: Vec::new() };
+    for (round, records) in input.rounds.into_iter().enumerate() {
+        for record in records {
+            let (place, caller) = (record.place, record.caller);
+            match record.act {
+                Act::Submit(ops) => drop(found.batches.insert(place, Batch { caller, round, ops })),
+                Act::Read(query) => found.reads.push(Read { place, caller, round, query }),
             }
         }
+        found.counts.push(found.batches.len());
     }
     found
 }
@@ -99,7 +43,7 @@ fn records(text: &str) -> Records {
 /// What a text names: for each read its number and its answer, the order of the batches, and the last line.
 struct Named<'a> {
     reads: Vec<(usize, &'a str)>,
-    order: Vec<usize>,
+    order: Vec<u64>,
     last: &'a str,
 }
 
@@ -159,31 +103,11 @@ fn broken(records: &Records, named: &Named) -> Option<u32> {
     None
 }
 
-fn apply(map: &mut BTreeMap<u64, u64>, batch: &Batch) {
-    for op in &batch.ops {
-        match *op {
-            Op::Put(key, val) => drop(map.insert(key, val)),
-            Op::Del(key) => drop(map.remove(&key)),
-            Op::Add(key, val) => {
-                let sum = map.entry(key).or_insert(0);
-                *sum = sum.saturating_add(val);
-            }
-            Op::Wipe(lo, hi) => map.retain(|key, _| *key < lo || hi < *key),
-        }
-    }
-}
-
-fn answer(map: &BTreeMap<u64, u64>, query: Query) -> String {
-    match query {
-        Query::Get(key) => map.get(&key).map_or("none".into(), |val| format!("some,{val}")),
-        Query::Sum(lo, hi) if lo <= hi => {
-            let (sum, most) = map.range(lo..=hi).fold((0u64, 0), |(sum, most), (_, val)| (sum.saturating_add(*val), most.max(*val)));
-            format!("aug,{sum},{most}")
-        }
-        Query::Sum(_, _) => "aug,0,0".into(),
-        Query::Rank(key) => format!("rank,{}", map.range(..key).count()),
-        Query::Size => format!("size,{}", map.len()),
-    }
+/// Whether a line tells the answer to a query.
+fn tells(told: &str, map: &BTreeMap<u64, u64>, query: &Query) -> bool {
+    let mut line = Vec::new();
+    answer(&mut line, map, query);
+    line.strip_suffix(b"\n") == Some(told.as_bytes())
 }
 
 /// Whether the reads have the answers of their versions, in the order of these, and the last line is right.
@@ -191,27 +115,28 @@ fn is_text(records: &Records, named: &Named) -> bool {
     let mut turns: Vec<usize> = (0..named.reads.len()).collect();
     turns.sort_by_key(|at| named.reads[*at].0);
     let (mut map, mut done) = (BTreeMap::new(), 0);
+    let change = |map: &mut _, places: &[u64]| {
+        let ops = places.iter().flat_map(|place| &records.batches[place].ops);
+        ops.for_each(|op| apply(map, op));
+    };
     for at in turns {
         let (number, told) = named.reads[at];
-        for place in &named.order[done..number] {
-            apply(&mut map, &records.batches[place]);
-        }
+        change(&mut map, &named.order[done..number]);
         done = number;
-        if answer(&map, records.reads[at].query) != told {
+        if !tells(told, &map, &records.reads[at].query) {
             return false;
         }
     }
-    for place in &named.order[done..] {
-        apply(&mut map, &records.batches[place]);
-    }
-    let (sum, most) = map.values().fold((0u64, 0), |(sum, most), val| (sum.saturating_add(*val), most.max(*val)));
-    named.last == format!("final,{},{sum},{most}", map.len())
+    change(&mut map, &named.order[done..]);
+    let mut last = Vec::new();
+    last_line(&mut last, &map);
+    last.strip_suffix(b"\n") == Some(named.last.as_bytes())
 }
 
 pub fn run(input: &[u8]) -> Vec<u8> {
     let text = str::from_utf8(input).expect("a text");
     let (before, text) = text.split_once("\nrun\n").expect("the line run");
-    let records = records(before);
+    let records = records(Input::read(before.as_bytes(), op, query));
     let point = match named(text, &records) {
         None => Some(0),
         Some(named) => broken(&records, &named).or_else(|| (!is_text(&records, &named)).then_some(6)),

@@ -1,6 +1,5 @@
 //! The tool graph over a `BTreeMap` of sorted adjacency lists, which a kept snapshot copies.
-use crate::records::{number, pairs, records};
-use crate::replies::line;
+use bench_common::{line, list, number, pairs, records};
 use std::collections::BTreeMap;
 
 #[derive(Clone, Default)]
@@ -111,15 +110,9 @@ fn root(parents: &mut [usize], place: usize) -> usize {
     at
 }
 
-fn label(out: &mut Vec<u8>, graph: &Graph) {
-    let found = graph.components();
-    line(out, "comp", std::iter::once(found.len() as u64).chain(found.into_iter().flatten()));
-}
-
 /// Writes what a search found.
 pub fn list_reached(out: &mut Vec<u8>, found: Vec<(u64, u64)>) {
-    let numbers = found.iter().flat_map(|hit| [hit.0, hit.1]);
-    line(out, "bfs", std::iter::once(found.len() as u64).chain(numbers));
+    list(out, "bfs", found.into_iter().map(<[u64; 2]>::from));
 }
 
 /// The replies to a script.
@@ -143,7 +136,7 @@ pub fn run(input: &[u8]) -> Vec<u8> {
             }
             b"size" => line(&mut out, "graph", graph.size()),
             b"degree" => line(&mut out, "degree", [graph.degree(number(record[1]))]),
-            b"comp" => label(&mut out, &graph),
+            b"comp" => list(&mut out, "comp", graph.components().into_iter()),
             b"now" => list_reached(&mut out, graph.reached(number(record[1]))),
             b"bfs" => match kept.get(number(record[1]) as usize) {
                 Some(snapshot) => list_reached(&mut out, snapshot.reached(number(record[2]))),

@@ -1,6 +1,5 @@
 //! The tool index over a `BTreeMap` of terms to `BTreeMap`s of documents to weights.
-use crate::records::{number, records};
-use crate::replies::line;
+use bench_common::{line, list, number, records};
 use std::collections::{BTreeMap, BTreeSet};
 
 type Postings = BTreeMap<u64, u64>;
@@ -80,8 +79,7 @@ impl Index {
 }
 
 fn documents(out: &mut Vec<u8>, hits: impl ExactSizeIterator<Item = (u64, u64)>) {
-    let count = hits.len() as u64;
-    line(out, "docs", std::iter::once(count).chain(hits.flat_map(|hit| [hit.0, hit.1])));
+    list(out, "docs", hits.map(<[u64; 2]>::from));
 }
 
 /// The replies to a script.

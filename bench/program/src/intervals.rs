@@ -1,6 +1,5 @@
 //! The tool interval over a `BTreeSet`, or by a scan of a sorted vector that the first question makes.
-use crate::records::{number, records};
-use crate::replies::line;
+use bench_common::{line, list, number, records};
 use std::collections::BTreeSet;
 
 /// How questions find intervals.
@@ -54,15 +53,15 @@ pub fn run(input: &[u8], way: Way) -> Vec<u8> {
                 let found = intervals.hits(way, at(1), at(1)).next().is_some();
                 line(&mut out, if found { "yes" } else { "no" }, []);
             }
-            b"stab" => hits(&mut out, intervals.hits(way, at(1), at(1)).collect()),
-            b"over" => hits(&mut out, intervals.hits(way, at(2), at(1)).collect()),
+            b"stab" => hits(&mut out, intervals.hits(way, at(1), at(1))),
+            b"over" => hits(&mut out, intervals.hits(way, at(2), at(1))),
             _ => {}
         }
     }
     out
 }
 
-fn hits(out: &mut Vec<u8>, found: Vec<(u64, u64)>) {
-    let numbers = found.iter().flat_map(|i| [i.0, i.1]);
-    line(out, "hits", std::iter::once(found.len() as u64).chain(numbers));
+fn hits(out: &mut Vec<u8>, found: impl Iterator<Item = (u64, u64)>) {
+    let found: Vec<_> = found.map(<[u64; 2]>::from).collect();
+    list(out, "hits", found.into_iter());
 }

@@ -9,15 +9,14 @@ mod gserve;
 mod index;
 mod intervals;
 mod points;
-mod records;
 mod registers;
-mod replies;
 mod sample;
 mod script;
 
-use std::env;
-use std::io::{self, Read, Write};
+use bench_common::{input, parsed, words};
+use std::io::{self, Write};
 use std::process::ExitCode;
+use std::sync::{Mutex, RwLock};
 
 fn write(text: &[u8], code: u8) -> io::Result<ExitCode> {
     io::stdout().lock().write_all(text)?;
@@ -25,37 +24,27 @@ fn write(text: &[u8], code: u8) -> io::Result<ExitCode> {
 }
 
 fn map() -> io::Result<ExitCode> {
-    let mut input = Vec::new();
-    io::stdin().lock().read_to_end(&mut input)?;
-    match script::commands(&input) {
+    match script::commands(&input()) {
         Ok(commands) => write(&registers::run(commands), 0),
         Err(fault) => write(fault.to_string().as_bytes(), 3),
     }
 }
 
-fn run(tool: impl Fn(&[u8]) -> Vec<u8>) -> io::Result<ExitCode> {
-    let mut input = Vec::new();
-    io::stdin().lock().read_to_end(&mut input)?;
-    write(&tool(&input), 0)
-}
-
 fn main() -> io::Result<ExitCode> {
-    let words: Vec<String> = env::args().skip(1).collect();
+    let words = words();
     let words: Vec<&str> = words.iter().map(String::as_str).collect();
-    match words[..] {
-        ["map"] => map(),
-        ["interval", "scan"] => run(|input| intervals::run(input, intervals::Way::Scan)),
-        ["interval", "tree"] => run(|input| intervals::run(input, intervals::Way::Tree)),
-        ["points"] => run(points::run),
-        ["index"] => run(index::run),
-        ["graph"] => run(graph::run),
-        ["gserve", "mutex"] => run(|input| gserve::run(input, gserve::Lock::Mutex)),
-        ["gserve", "rwlock"] => run(|input| gserve::run(input, gserve::Lock::RwLock)),
-        ["check"] => run(check::run),
-        ["sample", size, seed] => match (size.parse(), seed.parse()) {
-            (Ok(size), Ok(seed)) => write(&registers::run(sample::commands(size, seed)), 0),
-            _ => Ok(ExitCode::from(2)),
-        },
-        _ => Ok(ExitCode::from(2)),
-    }
+    let text = match words[..] {
+        ["map"] => return map(),
+        ["interval", "scan"] => intervals::run(&input(), intervals::Way::Scan),
+        ["interval", "tree"] => intervals::run(&input(), intervals::Way::Tree),
+        ["points"] => points::run(&input()),
+        ["index"] => index::run(&input()),
+        ["graph"] => graph::run(&input()),
+        ["gserve", "mutex"] => gserve::run::<Mutex<gserve::Served>>(&input()),
+        ["gserve", "rwlock"] => gserve::run::<RwLock<gserve::Served>>(&input()),
+        ["check"] => check::run(&input()),
+        ["sample", size, seed] => registers::run(sample::commands(parsed(size), parsed(seed))),
+        _ => return Ok(ExitCode::from(2)),
+    };
+    write(&text, 0)
 }

@@ -1,6 +1,5 @@
 //! The tool points over a `BTreeMap`, whose range of x is walked.
-use crate::records::{number, pairs, records};
-use crate::replies::line;
+use bench_common::{line, list, number, pairs, records};
 use std::collections::BTreeMap;
 
 type Points = BTreeMap<(u64, u64), u64>;
@@ -41,8 +40,7 @@ pub fn run(input: &[u8]) -> Vec<u8> {
             }
             b"list" => {
                 let found = within(&points);
-                let numbers = found.iter().flat_map(|point| [point.0, point.1, point.2]);
-                line(&mut out, "points", std::iter::once(found.len() as u64).chain(numbers));
+                list(&mut out, "points", found.into_iter().map(<[u64; 3]>::from));
             }
             _ => {}
         }

@@ -1,9 +1,7 @@
 //! Sixteen maps, and what commands do to them.
-use crate::replies::{entry, line};
 use crate::script::{Change, Command, How, Question, Register, REGISTERS};
-use std::cmp::Ordering;
+use bench_common::{entry, line, list, merged, totals};
 use std::collections::btree_map::{self, BTreeMap};
-use std::iter::{self, Peekable};
 use std::ops::Bound::{Excluded, Unbounded};
 use std::ops::{Index, IndexMut};
 
@@ -40,42 +38,6 @@ fn above(map: &Map, key: u64) -> btree_map::Range<'_, u64, u64> {
 
 fn kept<'a>(entries: impl Iterator<Item = (&'a u64, &'a u64)>) -> Map {
     entries.map(|(key, val)| (*key, *val)).collect()
-}
-
-/// The saturating sum and the greatest of values.
-fn totals<'a>(values: impl Iterator<Item = &'a u64>) -> [u64; 2] {
-    values.fold([0, 0], |[sum, greatest], val| {
-        [sum.saturating_add(*val), greatest.max(*val)]
-    })
-}
-
-type Ahead<'a> = Peekable<btree_map::Iter<'a, u64, u64>>;
-
-/// The least key of two walks, with the value that each has there.
-fn least(a: &mut Ahead, b: &mut Ahead) -> Option<(u64, Option<u64>, Option<u64>)> {
-    let order = match (a.peek(), b.peek()) {
-        (Some((k, _)), Some((l, _))) => k.cmp(l),
-        (Some(_), None) => Ordering::Less,
-        (None, Some(_)) => Ordering::Greater,
-        (None, None) => return None,
-    };
-    match order {
-        Ordering::Less => a.next().map(|(k, v)| (*k, Some(*v), None)),
-        Ordering::Greater => b.next().map(|(k, w)| (*k, None, Some(*w))),
-        Ordering::Equal => a
-            .next()
-            .zip(b.next())
-            .map(|((k, v), (_, w))| (*k, Some(*v), Some(*w))),
-    }
-}
-
-/// The keys of two maps in order, with the value that each has there.
-fn merged<'a>(
-    a: &'a Map,
-    b: &'a Map,
-) -> impl Iterator<Item = (u64, Option<u64>, Option<u64>)> + 'a {
-    let (mut a, mut b) = (a.iter().peekable(), b.iter().peekable());
-    iter::from_fn(move || least(&mut a, &mut b))
 }
 
 impl How {
@@ -137,9 +99,8 @@ fn ask(map: &Map, question: Question, out: &mut Vec<u8>) {
         Question::Next(k) => entry(out, above(map, k).next()),
         Question::Prev(k) => entry(out, map.range(..k).next_back()),
         Question::List(lo, hi) => {
-            let count = within(map, lo, hi).count() as u64;
-            let numbers = within(map, lo, hi).flat_map(|(k, v)| [*k, *v]);
-            line(out, "list", iter::once(count).chain(numbers));
+            let found: Vec<_> = within(map, lo, hi).map(|(k, v)| [*k, *v]).collect();
+            list(out, "list", found.into_iter());
         }
         Question::Count(lo, hi) => {
             let count = map.values().filter(|val| (lo..=hi).contains(val)).count();

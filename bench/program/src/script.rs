@@ -1,6 +1,6 @@
 //! The commands that lines name.
+use bench_common::{lines, Fields};
 use std::fmt;
-use std::slice;
 
 pub const REGISTERS: u64 = 16;
 
@@ -69,17 +69,12 @@ impl fmt::Display for Fault {
     }
 }
 
-/// What is left of a line's fields.
-struct Fields<'a> {
-    rest: slice::Split<'a, u8, fn(&u8) -> bool>,
+/// What is left of a line's fields, of which each must be lawful.
+struct Strict<'a> {
+    rest: Fields<'a>,
 }
 
-impl<'a> Fields<'a> {
-    fn of(line: &'a [u8]) -> Self {
-        let rest = line.split((|byte| *byte == b',') as fn(&u8) -> bool);
-        Fields { rest }
-    }
-
+impl<'a> Strict<'a> {
     fn text(&mut self) -> &'a [u8] {
         self.rest.next().unwrap_or_default()
     }
@@ -149,7 +144,7 @@ fn fits(verb: &[u8], fields: usize) -> Result<bool, Code> {
     })
 }
 
-fn question(verb: &[u8], f: &mut Fields) -> Result<Option<Question>, Code> {
+fn question(verb: &[u8], f: &mut Strict) -> Result<Option<Question>, Code> {
     Ok(Some(match verb {
         b"get" => Question::Get(f.number()?),
         b"size" => Question::Size,
@@ -166,7 +161,7 @@ fn question(verb: &[u8], f: &mut Fields) -> Result<Option<Question>, Code> {
     }))
 }
 
-fn change(verb: &[u8], mut f: Fields, fields: usize) -> Result<Change, Code> {
+fn change(verb: &[u8], mut f: Strict, fields: usize) -> Result<Change, Code> {
     Ok(match verb {
         b"put" => Change::Put(f.number()?, f.number()?),
         b"del" => Change::Del(f.number()?),
@@ -189,7 +184,7 @@ fn change(verb: &[u8], mut f: Fields, fields: usize) -> Result<Change, Code> {
 }
 
 fn command(line: &[u8]) -> Result<Command, Code> {
-    let mut f = Fields::of(line);
+    let mut f = Strict { rest: Fields::of(line) };
     let verb = f.text();
     let fields = line.iter().filter(|byte| **byte == b',').count();
     if !fits(verb, fields)? {
@@ -204,11 +199,8 @@ fn command(line: &[u8]) -> Result<Command, Code> {
 
 /// The commands of all lines, or the first fault.
 pub fn commands(input: &[u8]) -> Result<Vec<Command>, Fault> {
-    let lines = input
-        .split(|&byte| byte == b'\n')
-        .filter(|line| !line.is_empty());
-    let numbered = lines.zip(1..);
-    numbered
+    lines(input)
+        .zip(1..)
         .map(|(line, place)| command(line).map_err(|code| Fault { place, code }))
         .collect()
 }

@@ -4,18 +4,13 @@
 //! `root_baseline publishes READERS COUNT` has readers that take snapshots while a writer publishes COUNT versions.
 //! `root_baseline pushes SIZE` and `root_baseline gets SIZE` fill a log and read it whole.
 //! Each writes a checksum to standard output, and the nanoseconds that it took to standard error.
+use bench_common::{parsed, report, words};
 use std::sync::atomic::{AtomicBool, Ordering};
 use std::sync::{Arc, RwLock};
 use std::time::Instant;
 
 struct Version {
     number: u64,
-}
-
-fn report(sum: u64, start: Instant) {
-    let taken = start.elapsed().as_nanos();
-    println!("{sum}");
-    eprintln!("{taken}");
 }
 
 /// How many snapshots were taken, all in rising order.
@@ -108,21 +103,25 @@ fn filled(size: u64) -> Arc<Vec<u64>> {
     log
 }
 
+/// The sum of the items of a log.
+fn sum_of(log: &[u64]) -> u64 {
+    (0..log.len()).fold(0, |sum: u64, at| sum.wrapping_add(log[at]))
+}
+
 fn main() {
-    let words: Vec<String> = std::env::args().collect();
-    let size: u64 = words[2].parse().expect("a number");
-    match words[1].as_str() {
-        "snapshots" => snapshots(size, words[3].parse().expect("a count")),
-        "publishes" => publishes(size, words[3].parse().expect("a count")),
+    let words = words();
+    let number = |place: usize| parsed::<u64>(&words[place]);
+    match words[0].as_str() {
+        "snapshots" => snapshots(number(1), number(2)),
+        "publishes" => publishes(number(1), number(2)),
         "pushes" => {
             let start = Instant::now();
-            report(filled(size).len() as u64, start);
+            report(filled(number(1)).len() as u64, start);
         }
         "gets" => {
-            let log = filled(size);
+            let log = filled(number(1));
             let start = Instant::now();
-            let sum = (0..size).fold(0u64, |sum, at| sum.wrapping_add(log[at as usize]));
-            report(sum, start);
+            report(sum_of(&log), start);
         }
         other => panic!("no operation {other}"),
     }

@@ -2,49 +2,12 @@
 //!
 //! `seqs_baseline OPERATION SIZE SEED vec|vector` writes the checksum of the operation's answer to standard output
 //! and the nanoseconds that it took, without making its input, to standard error.
+use bench_common::{parsed, report, told, words, Checksum, Numbers};
 use im_rc::Vector;
 use std::time::Instant;
 
-const MULTIPLIER: u64 = 6364136223846793005;
-const INCREMENT: u64 = 1442695040888963407;
-
 /// How many sequences there are of which pairs are appended.
 const PIECES: u64 = 100;
-
-struct Numbers {
-    state: u64,
-}
-
-impl Numbers {
-    fn next(&mut self) -> u64 {
-        self.state = self.state.wrapping_mul(MULTIPLIER).wrapping_add(INCREMENT);
-        self.state
-    }
-
-    fn below(&mut self, bound: u64) -> u64 {
-        (self.next() >> 32) % bound.max(1)
-    }
-
-    fn items(&mut self, count: u64) -> Vec<u64> {
-        let mut items = Vec::new();
-        for _ in 0..count {
-            items.push(self.next() >> 44);
-        }
-        items
-    }
-}
-
-/// Mixes numbers, in their order, into one.
-#[derive(Default)]
-struct Checksum {
-    sum: u64,
-}
-
-impl Checksum {
-    fn add(&mut self, number: u64) {
-        self.sum = self.sum.rotate_left(5).wrapping_mul(MULTIPLIER).wrapping_add(number);
-    }
-}
 
 /// What the operations ask of a sequence, none of which changes it.
 trait Sequence: Sized {
@@ -113,27 +76,25 @@ impl Sequence for Vector<u64> {
     }
 }
 
-fn report(sum: u64, start: Instant) {
-    let taken = start.elapsed().as_nanos();
-    println!("{sum}");
-    eprintln!("{taken}");
+/// Writes the time since a start, and the checksum of all items of what it took to make.
+fn made<S: Sequence>(seq: &S, start: Instant) {
+    told(start, || {
+        let mut checksum = Checksum::default();
+        seq.run(0, seq.size()).for_each(|item| checksum.add(item));
+        checksum.sum()
+    });
 }
 
-/// The time since a start, and the checksum of all items of what it took to make.
-fn made<S: Sequence>(seq: &S, start: Instant) {
-    let taken = start.elapsed().as_nanos();
-    let mut checksum = Checksum::default();
-    seq.run(0, seq.size()).for_each(|item| checksum.add(item));
-    println!("{}", checksum.sum);
-    eprintln!("{taken}");
+fn items(numbers: &mut Numbers, count: u64) -> Vec<u64> {
+    (0..count).map(|_| numbers.item()).collect()
 }
 
 fn random<S: Sequence>(numbers: &mut Numbers, size: u64) -> S {
-    S::built(&numbers.items(size))
+    S::built(&items(numbers, size))
 }
 
 fn build<S: Sequence>(numbers: &mut Numbers, size: u64) {
-    let items = numbers.items(size);
+    let items = items(numbers, size);
     let start = Instant::now();
     made(&S::built(&items), start);
 }
@@ -154,7 +115,7 @@ fn append<S: Sequence>(numbers: &mut Numbers, size: u64) {
         let both = front.appended(back);
         checksum.add(both.at(numbers.below(both.size())).unwrap_or(0));
     }
-    report(checksum.sum, start);
+    report(checksum.sum(), start);
 }
 
 fn at<S: Sequence>(numbers: &mut Numbers, size: u64) {
@@ -164,7 +125,7 @@ fn at<S: Sequence>(numbers: &mut Numbers, size: u64) {
     for _ in 0..seq.size() {
         checksum.add(seq.at(numbers.below(seq.size())).unwrap_or(0));
     }
-    report(checksum.sum, start);
+    report(checksum.sum(), start);
 }
 
 /// Sums of runs of half of the items.
@@ -182,11 +143,11 @@ fn fold<S: Sequence>(numbers: &mut Numbers, size: u64) {
         checksum.add(sum);
         checksum.add(greatest);
     }
-    report(checksum.sum, start);
+    report(checksum.sum(), start);
 }
 
 fn run<S: Sequence>(operation: &str, size: u64, seed: u64) {
-    let mut numbers = Numbers { state: seed };
+    let mut numbers = Numbers::new(seed);
     match operation {
         "build" => build::<S>(&mut numbers, size),
         "append" => append::<S>(&mut numbers, size),
@@ -198,12 +159,11 @@ fn run<S: Sequence>(operation: &str, size: u64, seed: u64) {
 }
 
 fn main() {
-    let words: Vec<String> = std::env::args().collect();
-    let size: u64 = words[2].parse().expect("a size");
-    let seed: u64 = words[3].parse().expect("a seed");
-    match words[4].as_str() {
-        "vec" => run::<Vec<u64>>(&words[1], size, seed),
-        "vector" => run::<Vector<u64>>(&words[1], size, seed),
+    let words = words();
+    let (operation, size, seed) = (words[0].as_str(), parsed(&words[1]), parsed(&words[2]));
+    match words[3].as_str() {
+        "vec" => run::<Vec<u64>>(operation, size, seed),
+        "vector" => run::<Vector<u64>>(operation, size, seed),
         other => panic!("no sequence {other}"),
     }
 }

@@ -1,25 +1,14 @@
 //! Clones of one map that are kept.
-use crate::map::{last_line, Map};
+use bench_common::{last_line, Numbers};
+use std::collections::BTreeMap;
 use std::io::{self, Write};
 use std::time::Instant;
 
-const MULTIPLIER: u64 = 6364136223846793005;
-const INCREMENT: u64 = 1442695040888963407;
+type Map = BTreeMap<u64, u64>;
 
 /// How many entries the map has, with the keys from 0 on, and what their values are below.
 const ENTRIES: u64 = 100_000;
 const VALUES: u64 = 1_000_000;
-
-struct Numbers {
-    state: u64,
-}
-
-impl Numbers {
-    fn below(&mut self, bound: u64) -> u64 {
-        self.state = self.state.wrapping_mul(MULTIPLIER).wrapping_add(INCREMENT);
-        (self.state >> 32) % bound
-    }
-}
 
 /// Changes the values of so many keys one after another, and keeps a clone of the map after each.
 fn keep(map: &mut Map, numbers: &mut Numbers, count: usize) -> Vec<Map> {
@@ -32,7 +21,7 @@ fn keep(map: &mut Map, numbers: &mut Numbers, count: usize) -> Vec<Map> {
 }
 
 pub fn time(count: usize) {
-    let mut numbers = Numbers { state: 1 };
+    let mut numbers = Numbers::new(1);
     let entries: Vec<(u64, u64)> = (0..ENTRIES).map(|key| (key, numbers.below(VALUES))).collect();
     let mut map: Map = entries.iter().copied().collect();
     let start = Instant::now();

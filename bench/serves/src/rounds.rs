@@ -1,9 +1,10 @@
 //! Rounds of callers that share one map.
-use crate::map::{apply, last_line, order_lines, reply_line, Map};
-use crate::records::{Act, Op, Query, Record};
-use std::collections::VecDeque;
+use bench_common::{
+    answer, apply, begun, input, last_line, op, order_lines, query, run_caller, run_round, Input, Op, Query, Record, Shared,
+};
+use std::collections::BTreeMap;
 use std::sync::Mutex;
-use std::thread;
+use std::time::Instant;
 
 /// Where a caller runs that has the records of its round to itself.
 #[derive(Clone, Copy, PartialEq)]
@@ -12,77 +13,59 @@ pub enum Lone {
     Here,
 }
 
-/// The map, and the record's numbers of its batches in order.
+/// The map, and the records' numbers of its batches in order.
 #[derive(Default)]
 struct Served {
-    map: Map,
+    map: BTreeMap<u64, u64>,
     order: Vec<u64>,
 }
 
-type Lines = VecDeque<Vec<u8>>;
+#[derive(Default)]
+struct Locked(Mutex<Served>);
 
-fn submit(served: &Mutex<Served>, place: u64, ops: &[Op]) {
-    let mut served = served.lock().expect("no caller panics");
-    ops.iter().for_each(|op| apply(&mut served.map, op));
-    served.order.push(place);
-}
-
-fn answer(served: &Mutex<Served>, place: u64, query: &Query) -> Vec<u8> {
-    let served = served.lock().expect("no caller panics");
-    reply_line(&served.map, place, served.order.len(), query)
-}
-
-/// A caller's own records, and the lines of its reads.
-fn run_caller(served: &Mutex<Served>, records: &[Record], caller: usize) -> Lines {
-    let mut lines = Lines::new();
-    for record in records.iter().filter(|record| record.caller == caller) {
-        match &record.act {
-            Act::Submit(ops) => submit(served, record.place, ops),
-            Act::Read(query) => lines.push_back(answer(served, record.place, query)),
-        }
+impl Shared<Op, Query> for Locked {
+    fn submit(&self, place: u64, ops: &[Op]) {
+        let mut served = self.0.lock().expect("no caller panics");
+        ops.iter().for_each(|op| apply(&mut served.map, op));
+        served.order.push(place);
     }
-    lines
-}
 
-/// The callers that have records, side by side, and the lines of each caller.
-fn run_callers(served: &Mutex<Served>, records: &[Record], busy: &[bool]) -> Vec<Lines> {
-    thread::scope(|scope| {
-        let start = |caller| scope.spawn(move || run_caller(served, records, caller));
-        let threads: Vec<_> = busy.iter().enumerate().map(|(caller, is_busy)| is_busy.then(|| start(caller))).collect();
-        let lines = threads.into_iter().map(|thread| thread.map(|thread| thread.join().expect("a caller ends")));
-        lines.map(Option::unwrap_or_default).collect()
-    })
-}
-
-/// The lines of the reads, in record order.
-fn weave(records: &[Record], lines: &mut [Lines], text: &mut Vec<u8>) {
-    for record in records {
-        if let Act::Read(_) = record.act {
-            text.extend(lines[record.caller].pop_front().expect("a line for each read"));
-        }
+    fn reply(&self, place: u64, query: &Query) -> Vec<u8> {
+        let served = self.0.lock().expect("no caller panics");
+        let mut out = begun(place, served.order.len());
+        answer(&mut out, &served.map, query);
+        out
     }
 }
 
-fn play_round(served: &Mutex<Served>, callers: usize, records: &[Record], lone: Lone, text: &mut Vec<u8>) {
-    let mut busy = vec![false; callers];
-    records.iter().for_each(|record| busy[record.caller] = true);
-    let first = records[0].caller;
-    if lone == Lone::Here && records.iter().all(|record| record.caller == first) {
-        text.extend(run_caller(served, records, first).into_iter().flatten());
-    } else {
-        weave(records, &mut run_callers(served, records, &busy), text);
-    }
+/// The caller that has the records of a round to itself.
+fn lone_caller(records: &[Record<Op, Query>]) -> Option<usize> {
+    let first = records.first()?.caller;
+    records.iter().all(|record| record.caller == first).then_some(first)
 }
 
 /// The text of the records.
-pub fn run(callers: usize, records: &[Record], lone: Lone) -> Vec<u8> {
-    let served = Mutex::default();
+fn run(input: &Input<Op, Query>, lone: Lone) -> Vec<u8> {
+    let served = Locked::default();
     let mut text = Vec::new();
-    for round in records.chunk_by(|one, next| one.round == next.round) {
-        play_round(&served, callers, round, lone, &mut text);
+    for records in &input.rounds {
+        match lone_caller(records).filter(|_| lone == Lone::Here) {
+            Some(caller) => text.extend(run_caller(&served, records, caller).into_iter().flatten()),
+            None => run_round(&served, records, input.callers, &mut text),
+        }
     }
-    let served = served.into_inner().expect("no caller panics");
+    let served = served.0.into_inner().expect("no caller panics");
     order_lines(&mut text, &served.order);
     last_line(&mut text, &served.map);
     text
+}
+
+pub fn time(lone: Lone) {
+    let input = Input::read(&input(), op, query);
+    let start = Instant::now();
+    let text = run(&input, lone);
+    let taken = start.elapsed().as_nanos();
+    let lines = String::from_utf8(text).expect("a text");
+    println!("{}", lines.lines().next_back().expect("a last line"));
+    eprintln!("{taken}");
 }
