@@ -1,5 +1,5 @@
 //! Lines of text: a word, and numbers behind commas.
-ghost use Rattle.std.specs.Prelude.{◌≡◌, ◌+◌, ◌<◌, ◌≤◌, ◌++◌, ◌∷◌, ℕ, List, MatchResult, OnErr, OnOk, decimal, length, vec_capacity};
+ghost use Rattle.std.specs.Prelude.{◌≡◌, ◌+◌, ◌<◌, ◌≤◌, ◌++◌, ◌∷◌, ℕ, List, MatchResult, OnErr, decimal, length, vec_capacity};
 ghost use Rattle.script.specs.Lines.{IsPrefix, code_word, comma, error_line_of, line_of, reply_of};
 
 use crate::{BadRecord, Code};
@@ -60,7 +60,7 @@ pub fn push_part(out: &mut Vec<u8>, number: u64) -> Result<(), NoMemory>
 
 /// Appends a word, and a comma and a number for each number, or the first part of them.
 pub fn reply(out: &mut Vec<u8>, word: &str, numbers: &[u64]) -> Result<(), NoMemory>
-    ensures { OnOk result (out.new.items ≡ out.old.items ++ reply_of word.now numbers.now) }
+    ensures { MatchResult result (λ _. out.new.items ≡ out.old.items ++ reply_of word.now numbers.now) (λ _. IsPrefix out.old.items out.new.items) }
 {
     push_bytes(out, word.as_bytes())?;
     for number in numbers {
