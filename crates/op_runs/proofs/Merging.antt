@@ -1,6 +1,7 @@
 -- Changes in the order of their keys, those of one key made one.
-use Rattle.std.proofs.Common.{◌≡◌, ℕ, ◌+◌, ◌<◌, ◌≤◌, Bool, true, false, cond, ◌==◌, List, [], ◌∷◌, Some, None, unwrap_or, refl, sym, ap, ◌∙◌, arith}
-use Rattle.std.specs.Prelude.{fold}
+use Rattle.std.proofs.Common.{◌≡◌, ℕ, ◌+◌, ◌<◌, ◌≤◌, Bool, true, false, cond, ◌==◌, ◌||◌, List, [], ◌∷◌, Option, Some, None, unwrap_or, refl, sym, ap, ◌∙◌, arith}
+use Rattle.std.specs.Prelude.{fold, is_some}
+use Rattle.std.specs.List.{list_any}
 use Rattle.std.specs.List.Sorted.{IsSortedByKey}
 use Rattle.std.specs.Ordering.{nat_cmp, is_eq, is_lt}
 use native.Mathlib.Numerals.{unary_clauses}
@@ -12,6 +13,7 @@ use Rattle.op_runs.specs.declared.outcome.Outcome.{Outcome}
 use Rattle.op_runs.specs.declared.outcome.Outcome.TheVariants.{Nothing}
 use Rattle.op_runs.specs.Outcomes.{followed_by}
 use Rattle.op_runs.specs.Runs.{IsComposed}
+use Rattle.op_runs.specs.Steps.{changes_key}
 use Rattle.op_runs.proofs.OutcomeLaws.{Nothing-followed_by}
 
 abbrev pub Changes : Type 0
@@ -114,6 +116,32 @@ merged-at key outcome (e ∷ changes) q all up =
       ] refl
     ] refl
 
+-- ---- which keys are in what is merged
+
+one_listed : (b : Bool) (outcome : Outcome) → is_some (cond b (Some outcome) None) ≡ (b || false)
+one_listed true outcome = refl
+one_listed false outcome = refl
+
+twice_listed : (b rest : Bool) → (b || rest) ≡ (b || (b || rest))
+twice_listed true rest = refl
+twice_listed false rest = refl
+
+first_listed : (b : Bool) (outcome : Outcome) (found : Option Outcome) (rest : Bool) → is_some found ≡ rest → is_some (cond b (Some outcome) found) ≡ (b || rest)
+first_listed true outcome found rest h = refl
+first_listed false outcome found rest h = h
+
+merged-listed : (key : ℕ) (outcome : Outcome) (changes : Changes) (q : ℕ) → is_some (lookup nat_cmp (merged_from key outcome changes) q) ≡ (is_eq (nat_cmp key q) || list_any (changes_key q) changes)
+merged-listed key outcome [] q = one_listed (is_eq (nat_cmp key q)) outcome
+merged-listed key outcome (e ∷ changes) q =
+    let others : Bool = list_any (changes_key q) changes in
+    elim (e.0 == key) as (λ b. (e.0 == key) ≡ b → is_some (lookup nat_cmp (cond b (merged_from key (followed_by outcome e.1) changes) ((key, outcome) ∷ merged_from e.0 e.1 changes)) q) ≡ (is_eq (nat_cmp key q) || (is_eq (nat_cmp e.0 q) || others))) [
+      | true ↦ λ same.
+          merged-listed key (followed_by outcome e.1) changes q
+          ∙ twice_listed (is_eq (nat_cmp key q)) others
+          ∙ ap (λ k. is_eq (nat_cmp key q) || (is_eq (nat_cmp k q) || others)) (sym (same_key e.0 key same))
+      | false ↦ λ _. first_listed (is_eq (nat_cmp key q)) outcome (lookup nat_cmp (merged_from e.0 e.1 changes) q) (is_eq (nat_cmp e.0 q) || others) (merged-listed e.0 e.1 changes q)
+    ] refl
+
 -- ---- all
 
 pub composed_is : (key : ℕ) (outcome : Outcome) (changes : Changes) → IsSortedByKey (λ (x : ℕ × Outcome). x.0) nat_cmp ((key, outcome) ∷ changes) → IsComposed ((key, outcome) ∷ changes) (merged_from key outcome changes)
@@ -122,4 +150,5 @@ composed_is key outcome changes sorted =
     record {
       rises = IsIncreasing-merged key outcome changes up.0 up.1;
       found_at = λ q. merged-at key outcome changes q up.0 up.1 ∙ ap (λ o. fold (then_at q) o changes) (sym (Nothing-followed_by (cond (is_eq (nat_cmp key q)) outcome Nothing)));
+      listed = λ q. merged-listed key outcome changes q;
     }

@@ -1,7 +1,7 @@
 -- What operations leave at a key is what their outcome there leaves.
 use Rattle.std.proofs.Common.{◌≡◌, ℕ, true, false, cond, ◌||◌, nat_lt, List, [], ◌∷◌, Option, Some, None, refl, sym, ap, ◌∙◌}
 use Rattle.std.specs.Prelude.{fold}
-use Rattle.std.specs.List.{All, filter_map}
+use Rattle.std.specs.List.{All, filter_map, list_any}
 use Rattle.std.specs.Option.{option_map_or}
 use Rattle.std.specs.Ordering.{nat_cmp, is_eq}
 use Rattle.std.specs.Cmp.{nat_cmp_total}
@@ -21,7 +21,7 @@ use Rattle.op_runs.specs.declared.op.Op.TheVariants.{Put, Del, Add, Wipe}
 use Rattle.op_runs.specs.declared.outcome.Outcome.{Outcome}
 use Rattle.op_runs.specs.declared.outcome.Outcome.TheVariants.{Nothing, Set, Gone, Added}
 use Rattle.op_runs.specs.Outcomes.{followed_by, left_by, sat_sum}
-use Rattle.op_runs.specs.Steps.{IsSingle, change_of, changes_at, effect, outcome_at, step}
+use Rattle.op_runs.specs.Steps.{IsSingle, change_of, changes_at, changes_key, effect, is_of, outcome_at, step}
 use Rattle.op_runs.proofs.OutcomeLaws.{left_by-followed_by}
 
 pub equal_from_test : (o : Ordering) → is_eq o ≡ true → o ≡ Equal
@@ -86,3 +86,11 @@ changes_from (Wipe lo hi ∷ ops) q before all = absurd (false≢true (sym (All-
 
 pub changes_at-ops : (ops : List Op) (q : ℕ) → All IsSingle ops → changes_at (filter_map change_of ops) q ≡ outcome_at ops q
 changes_at-ops ops q all = changes_from ops q Nothing all
+
+-- the changes are of the operations' keys
+pub keys-ops : (ops : List Op) (q : ℕ) → list_any (changes_key q) (filter_map change_of ops) ≡ list_any (is_of q) ops
+keys-ops [] q = refl
+keys-ops (Put key val ∷ ops) q = ap (λ b. is_eq (nat_cmp key q) || b) (keys-ops ops q)
+keys-ops (Del key ∷ ops) q = ap (λ b. is_eq (nat_cmp key q) || b) (keys-ops ops q)
+keys-ops (Add key val ∷ ops) q = ap (λ b. is_eq (nat_cmp key q) || b) (keys-ops ops q)
+keys-ops (Wipe lo hi ∷ ops) q = keys-ops ops q

@@ -48,6 +48,17 @@ change_of (Del key) = Some (key, Gone)
 change_of (Add key val) = Some (key, Added val)
 change_of (Wipe lo hi) = None
 
+-- whether an operation is of a key
+abbrev pub is_of : ℕ → Op → Bool
+is_of q (Put key val) = is_eq (nat_cmp key q)
+is_of q (Del key) = is_eq (nat_cmp key q)
+is_of q (Add key val) = is_eq (nat_cmp key q)
+is_of q (Wipe lo hi) = false
+
+-- whether a change is of a key
+abbrev pub changes_key : ℕ → ℕ × Outcome → Bool
+changes_key q e = is_eq (nat_cmp e.0 q)
+
 -- what an operation comes to at a key
 abbrev pub effect : Op → ℕ → Outcome
 effect (Put key val) q = cond (is_eq (nat_cmp key q)) (Set val) Nothing

@@ -13,7 +13,7 @@ use std::alloc::Global;
 use std::marker::Sync;
 use std::thread::Threads;
 
-/// What operations without wipes come to at each of their keys, by rising keys. The operations are sorted by their keys, on all
+/// What operations without wipes come to at each of their keys and at no other, by rising keys. The operations are sorted by their keys, on all
 /// processors where there are many, and those of one key are composed: O(n * log n) for n operations. `NoMemory` for want of memory
 /// alone.
 pub fn outcomes_of<R: Threads + Sync>(

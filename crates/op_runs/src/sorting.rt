@@ -1,9 +1,9 @@
 //! Changes, sorted by their keys.
 ghost use Rattle.std.specs.Prelude.{◌≡◌, ℕ, IfOk, OnOk, length};
-ghost use Rattle.std.specs.List.{All, filter_map};
+ghost use Rattle.std.specs.List.{All, filter_map, list_any};
 ghost use Rattle.std.specs.List.Sorted.{IsSortedByKey, IsStableByKey};
 ghost use Rattle.std.specs.Ordering.{nat_cmp};
-ghost use Rattle.op_runs.specs.Steps.{IsSingle, change_of, changes_at, outcome_at};
+ghost use Rattle.op_runs.specs.Steps.{IsSingle, change_of, changes_at, changes_key, is_of, outcome_at};
 
 use crate::op::Op;
 use crate::outcome::Outcome;
@@ -92,6 +92,7 @@ pub(crate) fn sorted_changes<R: Threads + Sync>(
     requires singles { All IsSingle ops.now }
     ensures sorted { IfOk result (λ v. IsSortedByKey (λ e. e.0) nat_cmp v.items) }
     ensures same { IfOk result (λ v. (q : ℕ) → changes_at v.items q ≡ outcome_at ops.now q) }
+    ensures keys { IfOk result (λ v. (q : ℕ) → list_any (changes_key q) v.items ≡ list_any (is_of q) ops.now) }
 {
     let mut changes = changes_of(alloc, ops)?;
     sort_changes(rt, alloc, changes.as_mut_slice())?;
