@@ -1,7 +1,7 @@
 -- What the tool check replies.
 use Rattle.std.specs.Prelude.{◌≡◌, [], ◌∷◌, ℕ, List, codes}
 use Rattle.op_runs.specs.Steps.{step}
-use Rattle.run_check.specs.Verdicts.{IsVerdict}
+use Rattle.run_check.specs.Verdicts.{IsTheVerdict}
 use Rattle.run_check.specs.declared.verdict.Verdict.{Verdict}
 use Rattle.run_check.specs.declared.verdict.Verdict.TheVariants.{Yes, No}
 use Rattle.script.specs.Lines.{line_of}
@@ -15,9 +15,10 @@ use Rattle.serve_script.specs.declared.map_words.ServeQuery.{ServeQuery}
 abbrev pub ServeCommands : Type 0
 ServeCommands = List (ServedCommand ServeOp ServeQuery)
 
--- the verdict on a text as one of the commands, run on a map that has no entries at first
+-- the one verdict on a text as one of the commands, run on a map that has no entries at first: yes exactly where the text is one
+-- that the tool serve may write for them
 abbrev pub IsVerdictOn : ServeCommands → List ℕ → Verdict → Type 0
-IsVerdictOn commands text verdict = IsVerdict step answer_of last_of [] (records_of op_of commands) text verdict
+IsVerdictOn commands text verdict = IsTheVerdict step answer_of last_of [] (records_of op_of commands) text verdict
 
 abbrev pub reply_of : Verdict → List ℕ
 reply_of Yes = line_of (codes "yes") []

@@ -14,9 +14,10 @@ use std::alloc::Global;
 use std::marker::Sync;
 use std::thread::Threads;
 
-/// Whether the text is that of a lawful run of the commands, and if not the least point that fails (`Verdict`). For an input of n
-/// bytes it takes some n log n steps: each batch is applied once, and each read is answered once. The changes of the map fork within
-/// the cut. It is refused where memory runs out.
+/// Whether the text is that of a lawful run of the commands, and if not the least point that fails (`Verdict`): a text has one
+/// verdict, which is yes exactly where the tool serve may write it. For an input of n bytes it takes some n log n steps: each
+/// batch is applied once, and each read is answered once. The changes of the map fork within the cut. It is refused where memory
+/// runs out.
 pub fn check<R: Threads + Sync, G: Gate>(
     rt: &R,
     alloc: Global,
@@ -28,7 +29,6 @@ pub fn check<R: Threads + Sync, G: Gate>(
     requires { IsServeInput commands.now }
     ensures { IfOk result (IsVerdictOn commands.now text.now) }
 {
-    let _few = commands.len(); // for the proof alone: there are fewer than 2^64 commands
     let records = records(alloc, commands)?;
     let callers = callers(commands);
     run_check::check(

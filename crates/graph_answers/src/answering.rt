@@ -1,8 +1,9 @@
 //! What a served graph answers.
-ghost use Rattle.std.specs.Prelude.{◌≡◌, ◌++◌, OnOk};
+ghost use Rattle.std.specs.Prelude.{◌≡◌, ◌++◌, MatchResult};
 ghost use Rattle.graph_snap.specs.Walks.{reach};
 ghost use Rattle.graph_answers.specs.Answering as answering;
 ghost use Rattle.graph_answers.specs.Answering.{answer_of, last_of};
+ghost use Rattle.serve_text.specs.Texts.{Extends};
 
 use crate::served::GraphAnswers;
 use aug_monoid::NoMemory;
@@ -14,14 +15,14 @@ use serve_text::Answers;
 use std::alloc::Global;
 
 fn degree(alloc: Global, graph: &Graph, u: u64, out: &mut Vec<u8>) -> Result<(), NoMemory>
-    ensures { OnOk result (out.new.items ≡ out.old.items ++ answering.degree_reply graph.now u) }
+    ensures { MatchResult result (λ _. out.new.items ≡ out.old.items ++ answering.degree_reply graph.now u) (λ _. Extends out.old.items out.new.items) }
 {
     let degree = graph.degree(alloc, u)?;
     reply(out, "degree", &[degree])
 }
 
 fn bfs(alloc: Global, graph: &Graph, u: u64, out: &mut Vec<u8>) -> Result<(), NoMemory>
-    ensures { OnOk result (out.new.items ≡ out.old.items ++ answering.reached_reply (reach graph.now u)) }
+    ensures { MatchResult result (λ _. out.new.items ≡ out.old.items ++ answering.reached_reply (reach graph.now u)) (λ _. Extends out.old.items out.new.items) }
 {
     let found = graph.bfs_alone(alloc, u)?;
     let numbers = counted::<ReachedNumbers, _, _>(alloc, &found)?;
@@ -29,7 +30,7 @@ fn bfs(alloc: Global, graph: &Graph, u: u64, out: &mut Vec<u8>) -> Result<(), No
 }
 
 impl Answers for GraphAnswers {
-    ghost use Rattle.graph_answers.specs.InLine.{answer_in_line};
+    ghost use Rattle.graph_answers.specs.InLine.{answer_in_line, last_line};
 
     type Query = EdgeQuery;
 
@@ -52,4 +53,6 @@ impl Answers for GraphAnswers {
     }
 
     ghost in_line = { answer_in_line };
+
+    ghost last_line = { last_line };
 }

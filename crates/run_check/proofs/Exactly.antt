@@ -1,4 +1,4 @@
--- A text gets the verdict yes exactly where it is that of a lawful history.
+-- A text gets one verdict, and yes exactly where it is that of a lawful history.
 use Rattle.std.proofs.Common.{◌≡◌, ◌∙◌, ℕ, suc, ◌<◌, ◌≤◌, ◌+◌, ◌^◌, ◌==◌, List, [], ◌∷◌, ◌++◌, length, get_or, map, filter, take, refl, sym, ap, subst, arith}
 use Rattle.std.specs.Prelude.{All, nat_le}
 use Rattle.std.specs.List.{AllPairs, flat_map}
@@ -13,16 +13,19 @@ use Rattle.serve_text.specs.declared.record.Act.{Act}
 use Rattle.serve_text.specs.declared.record.Act.TheVariants.{Submit, Read}
 use Rattle.serve_text.specs.Records.{Asked, Answered, batch_by, batches_of, before, entries_of}
 use Rattle.serve_text.specs.Histories.{AreInRounds}
-use Rattle.serve_text.specs.Determined.{AreNumbered, HasNoLineFeed}
+use Rattle.serve_text.specs.Determined.{AreNumbered, HasNoLineFeed, IsLastLine}
 use Rattle.serve_text.specs.Texts.{reply_line, replies_text, serve_text, IsServeText}
 use Rattle.serve_text.proofs.Growing.{batches_of-nil, batches_of-cons, fewer_batches}
 use Rattle.serve_text.proofs.Keys.{same_order}
-use Rattle.run_text.specs.Forms.{Told, told_line, last_text, IsNumber, HasForm}
+use Rattle.run_text.specs.Forms.{Told, told_line, IsNumber, HasForm}
 use Rattle.run_check.specs.Placing.{placed_of}
-use Rattle.run_check.specs.Verdicts.{numbers_of, places_of, IsOrdered, IsRun}
+use Rattle.run_check.specs.declared.verdict.Verdict.{Verdict}
+use Rattle.run_check.specs.declared.verdict.Verdict.TheVariants.{Yes}
+use Rattle.run_check.specs.Verdicts.{numbers_of, places_of, IsOrdered, IsRun, IsTheVerdict, IsVerdict}
 use Rattle.run_check.proofs.Keyed.{each_only, keyed_permutation}
 use Rattle.run_check.proofs.Placings.{placed_all}
 use Rattle.run_check.proofs.Judging.{batches_rise, numbers_are, map_twice}
+use Rattle.run_check.proofs.OneVerdict.{one_verdict}
 use Rattle.run_check.proofs.Telling.{order_of}
 
 module _ {O : Type 0} (es : List (Entry O)) where
@@ -74,13 +77,7 @@ module _ {S O Q : Type 0} (step : S → O → S) (answer : S → Q → List ℕ)
         is = (run.all 6).text_is refl found.journal ordered;
       }
 
-  -- a last line
-  pub record IsLastLine (line : List ℕ) : Type 0 where
-    pub totals : List ℕ
-    pub in_line : HasNoLineFeed totals
-    pub is : line ≡ last_text totals
-
-  module _ (in_lines : (state : S) (query : Q) → HasNoLineFeed (answer state query)) (ends : (state : S) → IsLastLine (last state)) (few : length records < 2 ^ 64) where
+  module _ (in_lines : (state : S) (query : Q) → HasNoLineFeed (answer state query)) (last_lines : (state : S) → IsLastLine (last state)) (few : length records < 2 ^ 64) where
     abbrev told_of : List (Entry O) → Answered Q → Told
     told_of journal a = record { place = a.asked.place; number = a.number; answer = answer (state_of step (history base (take a.number journal))) a.asked.query }
 
@@ -103,7 +100,7 @@ module _ {S O Q : Type 0} (step : S → O → S) (answer : S → Q → List ℕ)
     -- the text of a lawful history gets yes
     pub serves_run : IsServeText step answer last base records text → IsRun step answer last base records text
     serves_run w =
-        let end = ends (state_of step (history base w.journal)) in
+        let end = last_lines (state_of step (history base w.journal)) in
         let numbers = map (λ (a : Answered Q). a.number) w.reads in
         let order = numbers_of w.journal in
         let fit_reads : All (λ (a : Answered Q). IsNumber a.number) w.reads = λ k d h.
@@ -139,3 +136,14 @@ module _ {S O Q : Type 0} (step : S → O → S) (answer : S → Q → List ℕ)
             text_is = λ e journal o. subst (λ (l : List (Entry O)). text ≡ serve_text step answer last base w.reads l) (journals journal o) w.is;
           };
         }
+
+    -- so a verdict is the only one
+    pub the_verdict : (v : Verdict) → IsVerdict step answer last base records text v → IsTheVerdict step answer last base records text v
+    the_verdict v is = record {
+      is = is;
+      only = λ other also. one_verdict step answer last base records text other v also is;
+      exactly = (
+        λ yes. run_serves (subst (IsVerdict step answer last base records text) yes is),
+        λ serves. one_verdict step answer last base records text v Yes is (serves_run serves),
+      );
+    }

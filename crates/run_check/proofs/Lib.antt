@@ -4,6 +4,7 @@ pub mod Forming
 pub mod Judging
 pub mod Keyed
 pub mod NeverFalling
+pub mod OneVerdict
 pub mod Placings
 pub mod ReadLists
 pub mod States

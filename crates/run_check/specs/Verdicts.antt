@@ -1,11 +1,11 @@
 -- Whether a text is that of a lawful run, and where it fails.
-use Rattle.std.specs.Prelude.{◌≡◌, ◌<◌, ◌⊎◌, ℕ, List, length, map, take, All}
+use Rattle.std.specs.Prelude.{◌≡◌, ◌↔◌, ◌<◌, ◌⊎◌, ℕ, List, length, map, take, All}
 use Rattle.std.specs.List.Sorted.{IsPermutation, IsNonDecreasingBy}
 use Rattle.versions.specs.declared.batch.Entry.{Entry}
 use Rattle.serve_text.specs.declared.record.Record.{Record}
 use Rattle.serve_text.specs.Records.{Asked, Answered, batches_of, reads_of, before, entries_of, answered_of}
 use Rattle.serve_text.specs.Histories.{IsOfItsRound}
-use Rattle.serve_text.specs.Texts.{serve_text}
+use Rattle.serve_text.specs.Texts.{IsServeText, serve_text}
 use Rattle.run_text.specs.Forms.{HasForm}
 use Rattle.run_check.specs.declared.verdict.Verdict.{Verdict}
 use Rattle.run_check.specs.declared.verdict.Verdict.TheVariants.{Yes, No}
@@ -69,3 +69,9 @@ module _ {S O Q : Type 0} (step : S → O → S) (answer : S → Q → List ℕ)
   abbrev pub IsVerdict : Verdict → Type 0
   IsVerdict Yes = IsRun
   IsVerdict (No point) = ((point ≡ 0) × HasNoForm) ⊎ FailsAt point
+
+  -- it is the one verdict on the text, and yes exactly where the text is that of a lawful history
+  pub record IsTheVerdict (verdict : Verdict) : Type 0 where
+    pub is : IsVerdict verdict
+    pub only : (other : Verdict) → IsVerdict other → other ≡ verdict
+    pub exactly : (verdict ≡ Yes) ↔ IsServeText step answer last base records text

@@ -8,7 +8,7 @@ ghost use Rattle.serve_text.specs.Histories.{AreInRounds};
 ghost use Rattle.run_check.specs.Passing.{Passes, IsLeastFailing};
 ghost use Rattle.run_text.specs.Forms.{Tells, told_text};
 ghost use Rattle.run_check.specs.Reading.{asked_in, numbers_in, numbers_told};
-ghost use Rattle.run_check.specs.Verdicts.{IsVerdict, places_of};
+ghost use Rattle.run_check.specs.Verdicts.{IsTheVerdict, IsVerdict, places_of};
 
 use crate::placed::{Placed, batches_of, in_order, placed_of};
 use crate::points::{are_of_their_rounds, callers_rise, numbers_rise, rounds_rise};
@@ -102,11 +102,12 @@ fn judged<S: Answers, R: Threads + Sync, G: Gate>(
 }
 
 /// Whether the text is that of a lawful run of the records from this state, and if not the least point that does not hold (`Verdict`).
+/// A text has one verdict, and it is yes exactly where the text is that of a lawful history.
 ///
 /// The text is read once. For n records, and a text of m bytes, it takes O(m + n log n) besides what the state takes: its batches are applied
 /// once each, those between two reads' versions together, to the one state that there is, and each read is answered once, in the order of the
-/// versions. What the state's own changes fork enters the gate within the cut; nothing else does. It compares each answer with that of the text
-/// as it is made, and keeps none.
+/// versions. The state's own changes fork within the cut, and nothing enters the gate. It compares each answer with that of the text as it is
+/// made, and keeps none.
 pub fn check<S: Answers, R: Threads + Sync, G: Gate>(
     rt: &R,
     alloc: Global,
@@ -119,8 +120,9 @@ pub fn check<S: Answers, R: Threads + Sync, G: Gate>(
 ) -> Result<Verdict, NoMemory>
     requires numbered { AreNumbered records.now }
     requires rounds { AreInRounds callers records.now }
-    ensures { IfOk result (IsVerdict S.step S.answer_of S.last_of base records.now text.now) }
+    ensures { IfOk result (IsTheVerdict S.step S.answer_of S.last_of base records.now text.now) }
 {
+    let _few = records.len(); // for the proof alone: there are fewer than 2^64 records
     let places = read_places(alloc, records)?;
     let Some(told) = parts_told(alloc, places.as_slice(), text)? else {
         return Ok(Verdict::No { point: 0 });

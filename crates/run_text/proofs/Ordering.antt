@@ -6,10 +6,10 @@ use Rattle.std.specs.Option.{MatchOption}
 use denote.Ref.{Bor}
 use Rattle.std.proofs.lemmas.List.{append-nil}
 use Rattle.std.proofs.lemmas.List.Elements.{All-cons, All-map}
-use Rattle.serve_text.specs.Texts.{comma, line_feed, order_line}
+use Rattle.serve_text.specs.Texts.{comma, last_text, line_feed, order_line}
 use Rattle.serve_text.specs.Determined.{HasNoLineFeed}
 use Rattle.serve_text.proofs.Decimals.{first_stop, number_before, decimal_in_line}
-use Rattle.run_text.specs.Forms.{HasForm, Tells, Told, told_line, IsNumber, numbers_text, last_text}
+use Rattle.run_text.specs.Forms.{HasForm, Tells, Told, told_line, IsNumber, numbers_text}
 use Rattle.run_text.specs.Parts.{TellsReads, TellsThese}
 use Rattle.run_text.proofs.Telling.{head_in_line, behind_same, never_within, all_back, same_reads}
 
@@ -144,3 +144,16 @@ form_last places ms ns found order text told_rest rest form reads batches fit st
     let same = same_reads places ms ns text told_rest (numbers_text 1 order ++ last_text form.totals) reads (form_reads places ns order text form) in
     let ends = same_order_text 1 order found form.totals rest form.order_fits fit (sym same.1 ∙ batches) stop in
     (form.totals, form.totals_in_line, ends.1)
+
+no_order : (totals : List ℕ) (place n : ℕ) (later : List ℕ) → last_text totals ≢ order_line place n ++ later
+no_order totals place n later is =
+    let other : last_text totals ≡ (106 ∷ comma ∷ (decimal place ++ comma ∷ decimal n)) ++ line_feed ∷ later = is ∙ batch_before place n later in
+    let same : 102 ≡ 106 = heads 102 106 (105 ∷ 110 ∷ 97 ∷ 108 ∷ 44 ∷ (totals ++ line_feed ∷ [])) ((comma ∷ (decimal place ++ comma ∷ decimal n)) ++ line_feed ∷ later) other in
+    omega (arith, same)
+
+-- a text has its form in one way
+pub one_form : (places ms ns first second text : List ℕ) → HasForm places ms first text → HasForm places ns second text → (ms ≡ ns) × (first ≡ second)
+one_form places ms ns first second text a b =
+    let reads = same_reads places ms ns text (numbers_text 1 first ++ last_text a.totals) (numbers_text 1 second ++ last_text b.totals) (form_reads places ms first text a) (form_reads places ns second text b) in
+    let orders = same_order_text 1 first second a.totals (last_text b.totals) a.order_fits b.order_fits reads.1 (λ n later small. no_order b.totals (1 + length second) n later) in
+    (reads.0, orders.0)

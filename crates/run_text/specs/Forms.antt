@@ -1,7 +1,7 @@
 -- The form of a text that tells a run, and the numbers that it names.
-use Rattle.std.specs.Prelude.{◌≡◌, ◌<◌, ◌+◌, ◌^◌, ◌++◌, ◌∷◌, [], ℕ, List, codes, map, All}
+use Rattle.std.specs.Prelude.{◌≡◌, ◌<◌, ◌+◌, ◌^◌, ◌++◌, ◌∷◌, [], ℕ, List, map, All}
 use Rattle.std.specs.List.{flat_map}
-use Rattle.serve_text.specs.Texts.{line_feed, reply_head, order_line}
+use Rattle.serve_text.specs.Texts.{last_text, line_feed, reply_head, order_line}
 use Rattle.serve_text.specs.Determined.{HasNoLineFeed}
 
 -- a read as a line tells it: the number of its record, the number of a version, and an answer
@@ -17,10 +17,6 @@ told_line t = reply_head t.place t.number ++ (t.answer ++ line_feed ∷ [])
 abbrev pub numbers_text : ℕ → List ℕ → List ℕ
 numbers_text place [] = []
 numbers_text place (n ∷ ns) = order_line place n ++ numbers_text (place + 1) ns
-
--- the last line
-abbrev pub last_text : List ℕ → List ℕ
-last_text totals = codes "final," ++ (totals ++ line_feed ∷ [])
 
 abbrev pub IsNumber : ℕ → Type 0
 IsNumber n = n < 2 ^ 64

@@ -1,9 +1,9 @@
 //! The lines of the batches, and the last line.
 ghost use Rattle.std.specs.Prelude.{◌≡◌, ◌≢◌, ◌+◌, ◌++◌, ◌↔◌, ℕ, List, IfOk, IsTrue, All, length};
 ghost use Rattle.std.specs.Option.{MatchOption};
-ghost use Rattle.serve_text.specs.Texts.{order_line};
+ghost use Rattle.serve_text.specs.Texts.{last_text, order_line};
 ghost use Rattle.serve_text.specs.Determined.{HasNoLineFeed};
-ghost use Rattle.run_text.specs.Forms.{IsNumber, last_text, numbers_text};
+ghost use Rattle.run_text.specs.Forms.{IsNumber, numbers_text};
 
 use crate::head::behind_head;
 use crate::lines::split_at_byte;

@@ -1,11 +1,12 @@
 //! What a served map answers.
-ghost use Rattle.std.specs.Prelude.{◌≡◌, ◌<◌, ◌++◌, ◌∷◌, [], IfOk, OnOk, length};
+ghost use Rattle.std.specs.Prelude.{◌≡◌, ◌<◌, ◌++◌, ◌∷◌, [], IfOk, MatchResult, length};
 ghost use Rattle.std.specs.Ordering.{nat_cmp};
 ghost use Rattle.map_model.specs.Entries.{lookup};
 ghost use Rattle.map_model.specs.Parts.{rank};
 ghost use Rattle.serve_answers.specs.Answering as answering;
 ghost use Rattle.serve_answers.specs.Answering.{answer_of, last_of, range_totals, totals_of};
 ghost use Rattle.script.specs.Lines.{reply_of};
+ghost use Rattle.serve_text.specs.Texts.{Extends};
 
 use crate::served::ServedMap;
 use aug_map::PlainMap;
@@ -26,7 +27,7 @@ fn get<C: Ledger>(
     steps: &mut Steps<C>,
     out: &mut Vec<u8>,
 ) -> Result<(), NoMemory>
-    ensures { OnOk result (out.new.items ≡ out.old.items ++ answering.found_reply (lookup nat_cmp map.now.entries k)) }
+    ensures { MatchResult result (λ _. out.new.items ≡ out.old.items ++ answering.found_reply (lookup nat_cmp map.now.entries k)) (λ _. Extends out.old.items out.new.items) }
 {
     match map.get(alloc, &k, steps)? {
         Some(val) => reply(out, "some", &[val]),
@@ -70,13 +71,13 @@ fn sum<C: Ledger>(
     steps: &mut Steps<C>,
     out: &mut Vec<u8>,
 ) -> Result<(), NoMemory>
-    ensures { OnOk result (out.new.items ≡ out.old.items ++ answering.totals_reply (range_totals map.now.entries lo hi)) }
+    ensures { MatchResult result (λ _. out.new.items ≡ out.old.items ++ answering.totals_reply (range_totals map.now.entries lo hi)) (λ _. Extends out.old.items out.new.items) }
 {
     let within = totals_within(alloc, map, lo, hi, steps)?;
     reply(out, "aug", &[within.sum, within.greatest])
 }
 
-/// Appends what the map answers.
+/// Appends what the map answers, or the first part of it.
 fn answer<C: Ledger>(
     alloc: Global,
     map: &PlainTotals,
@@ -87,7 +88,7 @@ fn answer<C: Ledger>(
     requires name { blank.name ≡ C.name }
     requires parts { blank.parts ≡ C.parts }
     requires some { 0 < blank.parts }
-    ensures { OnOk result (out.new.items ≡ out.old.items ++ answer_of map.now.entries query.now) }
+    ensures { MatchResult result (λ _. out.new.items ≡ out.old.items ++ answer_of map.now.entries query.now) (λ _. Extends out.old.items out.new.items) }
 {
     let mut steps = Steps::<C>::start(blank);
     match *query {
@@ -99,7 +100,7 @@ fn answer<C: Ledger>(
 }
 
 impl Answers for ServedMap {
-    ghost use Rattle.serve_answers.specs.InLine.{answer_in_line};
+    ghost use Rattle.serve_answers.specs.InLine.{answer_in_line, last_line};
 
     type Query = ServeQuery;
 
@@ -118,4 +119,6 @@ impl Answers for ServedMap {
     }
 
     ghost in_line = { answer_in_line };
+
+    ghost last_line = { last_line };
 }

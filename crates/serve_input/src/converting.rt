@@ -3,6 +3,7 @@ ghost use Rattle.std.specs.Prelude.{◌≡◌, ◌≤◌, ◌++◌, IfOk, map};
 ghost use Rattle.serve_script.specs.Served.{IsServeInput};
 ghost use Rattle.serve_input.specs.Converting as converted;
 ghost use Rattle.serve_input.specs.Converting.{HasSmallCaller};
+ghost use Rattle.serve_text.specs.Determined.{AreNumbered};
 ghost use Rattle.serve_text.specs.Histories.{AreInRounds};
 
 use aug_monoid::{NoMemory, Share};
@@ -70,8 +71,8 @@ fn rounds_in<O: Drop, Q: Drop>(command: &ServedCommand<O, Q>) -> u64
     }
 }
 
-/// The batches and reads of an input as records, in order, in linear time. Rounds count from 0, and
-/// one without records leaves none.
+/// The batches and reads of an input as records, in order, in linear time: their numbers rise. Rounds count from 0, and one
+/// without records leaves none.
 pub fn records<P: Share, O: Says<P>, Q: Copy>(
     alloc: Global,
     commands: &[ServedCommand<O, Q>],
@@ -79,7 +80,9 @@ pub fn records<P: Share, O: Says<P>, Q: Copy>(
     requires { IsServeInput commands.now }
     ensures value { IfOk result (λ records. records.items ≡ converted.records_of O.op_of commands.now) }
     ensures rounds { IfOk result (λ records. AreInRounds (converted.callers_of commands.now) records.items) }
+    ensures numbered { IfOk result (λ records. AreNumbered records.items) }
 {
+    let _few = commands.len(); // for the proof alone: there are fewer than 2^64 commands
     let mut records = Vec::new(alloc);
     let mut round = 0;
     for command in commands {

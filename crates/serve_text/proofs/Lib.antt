@@ -4,3 +4,4 @@ pub mod Merging
 pub mod Decimals
 pub mod Keys
 pub mod Determined
+pub mod Extending

@@ -13,6 +13,14 @@ comma = 44
 abbrev pub line_feed : ℕ
 line_feed = 10
 
+-- a text that begins with what stood there before
+abbrev pub Extends : List ℕ → List ℕ → Type 0
+Extends before text = (more : List ℕ) × (text ≡ before ++ more)
+
+-- the last line, with what it tells of the state
+abbrev pub last_text : List ℕ → List ℕ
+last_text totals = codes "final," ++ (totals ++ line_feed ∷ [])
+
 -- the beginning of a read's line: its record's number, and the number of the version that answers it
 abbrev pub reply_head : ℕ → ℕ → List ℕ
 reply_head place number = codes "r," ++ (decimal place ++ (comma ∷ (decimal number ++ comma ∷ [])))

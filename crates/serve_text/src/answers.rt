@@ -1,6 +1,7 @@
 //! States that answer queries by text.
-ghost use Rattle.std.specs.Prelude.{◌≡◌, ◌++◌, ℕ, List, OnOk};
-ghost use Rattle.serve_text.specs.Determined.{HasNoLineFeed};
+ghost use Rattle.std.specs.Prelude.{◌≡◌, ◌++◌, ℕ, List, MatchResult};
+ghost use Rattle.serve_text.specs.Determined.{HasNoLineFeed, IsLastLine};
+ghost use Rattle.serve_text.specs.Texts.{Extends};
 
 use aug_monoid::NoMemory;
 use std::alloc::Global;
@@ -18,13 +19,15 @@ pub trait Answers: SyncState {
     /// The last line of a text that ends in this state, with its line feed.
     ghost last_of: { Self → List ℕ };
 
-    /// Appends the answer.
+    /// Appends the answer, or the first part of it.
     fn answer(&self, alloc: Global, query: &Self::Query, out: &mut Vec<u8>) -> Result<(), NoMemory>
-        ensures { OnOk result (out.new.items ≡ out.old.items ++ answer_of self.now query.now) };
+        ensures { MatchResult result (λ _. out.new.items ≡ out.old.items ++ answer_of self.now query.now) (λ _. Extends out.old.items out.new.items) };
 
-    /// Appends the last line.
+    /// Appends the last line, or the first part of it.
     fn write_last(&self, alloc: Global, out: &mut Vec<u8>) -> Result<(), NoMemory>
-        ensures { OnOk result (out.new.items ≡ out.old.items ++ last_of self.now) };
+        ensures { MatchResult result (λ _. out.new.items ≡ out.old.items ++ last_of self.now) (λ _. Extends out.old.items out.new.items) };
 
     ghost in_line: { (state : Self) (query : Self.Query) → HasNoLineFeed (answer_of state query) };
+
+    ghost last_line: { (state : Self) → IsLastLine (last_of state) };
 }

@@ -1,7 +1,7 @@
 //! The writers of a text.
-ghost use Rattle.std.specs.Prelude.{◌≡◌, ◌++◌, ◌∷◌, [], length, OnOk, IfOk, decimal, codes};
+ghost use Rattle.std.specs.Prelude.{◌≡◌, ◌++◌, ◌∷◌, [], length, IfOk, MatchResult, decimal, codes};
 ghost use Rattle.versions.specs.History.{state_of};
-ghost use Rattle.serve_text.specs.Texts.{comma, line_feed, reply_head, order_line, order_text, rest_text};
+ghost use Rattle.serve_text.specs.Texts.{Extends, comma, line_feed, reply_head, order_line, order_text, rest_text};
 
 use crate::answers::Answers;
 use aug_monoid::{NoMemory, Share};
@@ -11,7 +11,7 @@ use std::alloc::Global;
 use versions::{Entry, Version};
 
 fn push_number(out: &mut Vec<u8>, number: u64) -> Result<(), NoMemory>
-    ensures { OnOk result (out.new.items ≡ out.old.items ++ decimal number) }
+    ensures { MatchResult result (λ _. out.new.items ≡ out.old.items ++ decimal number) (λ _. out.new.items ≡ out.old.items) }
 {
     let mut buffer = Buffer::new();
     out.extend_from_slice(buffer.format(number).as_bytes())?;
@@ -19,7 +19,7 @@ fn push_number(out: &mut Vec<u8>, number: u64) -> Result<(), NoMemory>
 }
 
 fn push_pair(out: &mut Vec<u8>, first: u64, second: u64) -> Result<(), NoMemory>
-    ensures { OnOk result (out.new.items ≡ out.old.items ++ (decimal first ++ (comma ∷ decimal second))) }
+    ensures { MatchResult result (λ _. out.new.items ≡ out.old.items ++ (decimal first ++ (comma ∷ decimal second))) (λ _. Extends out.old.items out.new.items) }
 {
     push_number(out, first)?;
     out.push(b',')?;
@@ -27,7 +27,7 @@ fn push_pair(out: &mut Vec<u8>, first: u64, second: u64) -> Result<(), NoMemory>
 }
 
 fn push_head(out: &mut Vec<u8>, place: u64, number: u64) -> Result<(), NoMemory>
-    ensures { OnOk result (out.new.items ≡ out.old.items ++ reply_head place number) }
+    ensures { MatchResult result (λ _. out.new.items ≡ out.old.items ++ reply_head place number) (λ _. Extends out.old.items out.new.items) }
 {
     out.extend_from_slice(b"r,")?;
     push_pair(out, place, number)?;
@@ -36,7 +36,7 @@ fn push_head(out: &mut Vec<u8>, place: u64, number: u64) -> Result<(), NoMemory>
 }
 
 fn push_order_line(out: &mut Vec<u8>, place: u64, tag: u64) -> Result<(), NoMemory>
-    ensures { OnOk result (out.new.items ≡ out.old.items ++ order_line place tag) }
+    ensures { MatchResult result (λ _. out.new.items ≡ out.old.items ++ order_line place tag) (λ _. Extends out.old.items out.new.items) }
 {
     out.extend_from_slice(b"j,")?;
     push_pair(out, place, tag)?;
@@ -60,9 +60,9 @@ pub fn reply_line<S: Answers>(
     Ok(text)
 }
 
-/// Appends the lines of the journal's entries in order.
+/// Appends the lines of the journal's entries in order, or the first part of them.
 fn write_order<O: Share>(out: &mut Vec<u8>, journal: &SharedLog<Entry<O>>) -> Result<(), NoMemory>
-    ensures { OnOk result (out.new.items ≡ out.old.items ++ order_text 1 journal.now) }
+    ensures { MatchResult result (λ _. out.new.items ≡ out.old.items ++ order_text 1 journal.now) (λ _. Extends out.old.items out.new.items) }
 {
     for at in 0..journal.len() {
         let Some(entry) = journal.get(at) else {
@@ -73,13 +73,13 @@ fn write_order<O: Share>(out: &mut Vec<u8>, journal: &SharedLog<Entry<O>>) -> Re
     Ok(())
 }
 
-/// Appends what comes after the reads' lines: the order of the version's batches, and the last line of its state.
+/// Appends what comes after the reads' lines, or the first part of it: the order of the version's batches, and the last line of its state.
 pub fn write_rest<S: Answers>(
     alloc: Global,
     version: &Version<S>,
     out: &mut Vec<u8>,
 ) -> Result<(), NoMemory>
-    ensures { OnOk result (out.new.items ≡ out.old.items ++ rest_text S.step S.last_of version.now.base version.now.journal) }
+    ensures { MatchResult result (λ _. out.new.items ≡ out.old.items ++ rest_text S.step S.last_of version.now.base version.now.journal) (λ _. Extends out.old.items out.new.items) }
 {
     write_order(out, version.journal())?;
     version.state().write_last(alloc, out)

@@ -1,5 +1,6 @@
 use Rattle.std.proofs.Common.{◌≡◌, ◌++◌, false, true, map, sym, ◌∙◌}
-use Rattle.run_text.specs.Forms.{Told, numbers_text, last_text}
+use Rattle.serve_text.specs.Texts.{last_text}
+use Rattle.run_text.specs.Forms.{Told, numbers_text}
 use Rattle.run_text.proofs.Telling.{these_reads}
 use Rattle.run_text.proofs.Ordering.{whole_told, form_reads, form_last}
 use Rattle.run_text.proofs.form.parts_told.Goals as goal

@@ -1,6 +1,7 @@
-use Rattle.std.proofs.Common.{◌≡◌, ◌∙◌, ◌++◌, append-nil, arith, ap, sym}
+use Rattle.std.proofs.Common.{◌≡◌, ◌∙◌, ◌++◌, append-nil, arith, ap, rules, sym}
 use Rattle.serve_input.specs.Converting.{records_of}
 use Rattle.serve_input.proofs.Inputs.{in_rounds, one_round, records-end, records-more, small}
+use Rattle.serve_input.proofs.Numbered.{numbered}
 use Rattle.serve_input.proofs.converting.records.Goals as goal
 
 pub push_record-requires : goal.push_record-requires
@@ -18,4 +19,8 @@ pub returns : goal.returns
 returns g c =
     let whole : c.loop-command.records.items ≡ records_of g.O.Says.op_of c.args.commands.now =
     sym (c.loop-command.invariant.so_far ∙ ap (λ rest. c.loop-command.records.items ++ rest) (records-end g.O.Says.op_of c.loop-command.round c.args.commands.now c.loop-command.command-index (omega arith)) ∙ append-nil c.loop-command.records.items) in
-    record { value = whole; rounds = rw whole (in_rounds g.O.Says.op_of c.args.commands.now c.requires) }
+    record {
+      value = whole;
+      rounds = rw whole (in_rounds g.O.Says.op_of c.args.commands.now c.requires);
+      numbered = rw whole (numbered g.O.Says.op_of c.args.commands.now c.requires (search rules));
+    }
