@@ -10,7 +10,7 @@ use Rattle.serve_text.specs.Texts.{reply_line}
 
 module _ {S O Q : Type 0} (step : S → O → S) (answer : S → Q → List ℕ) where
   -- the caller has submitted its records' batches, each with its record's number as its tag, and has answered its records' reads,
-  -- each by the newest version that it had seen then
+  -- each by a version that it has seen between its first and its last record, whose number never falls from a read to the next
   pub record HasRun (records : List (Record O Q)) (before after : Calling S O) (lines : List (List ℕ)) : Type 0 where
     pub same : SameCaller before after
     pub sent : after.sent ≡ before.sent ++ map submitted_in (batches_of records)

@@ -99,7 +99,8 @@ fn run_own<S: Answers, R: Wait, G: Gate>(
     Ok(())
 }
 
-/// The caller's own of the records, in order: it submits batches, and answers reads.
+/// The caller's own of the records, in order: it submits batches, and answers each read by a version that it has seen between the
+/// first and the last record, whose number never falls from one read to the next. After a refusal nothing is said of the lines.
 pub fn run_caller<S: Answers, R: Wait, G: Gate>(
     rt: &R,
     alloc: Global,

@@ -1,5 +1,5 @@
 //! Lines that wait to be written.
-ghost use Rattle.std.specs.Prelude.{◌≡◌, ◌++◌, ◌∷◌, [], List, ℕ, OnOk};
+ghost use Rattle.std.specs.Prelude.{◌≡◌, ◌++◌, ◌∷◌, [], List, ℕ, MatchResult, OnErr, OnOk};
 
 use aug_monoid::NoMemory;
 use std::alloc::Global;
@@ -44,9 +44,9 @@ impl Lines {
         }
     }
 
-    /// One more line.
+    /// One more line, or none: after a refusal the lines are as before.
     pub fn push(&mut self, bytes: Vec<u8>) -> Result<(), NoMemory>
-        ensures { OnOk result (self.new ≡ self.old ++ bytes.items ∷ []) }
+        ensures { MatchResult result (λ _. self.new ≡ self.old ++ bytes.items ∷ []) (λ _. self.new ≡ self.old) }
     {
         match self.queue.push_back(Line { bytes }) {
             Ok(()) => Ok(()),
@@ -54,13 +54,17 @@ impl Lines {
         }
     }
 
-    /// Moves the first line, if there is one, to the end of a text.
+    /// Moves the first line, if there is one, to the end of a text. Where there is none, and after a refusal, both are as before.
     pub fn write_first(&mut self, text: &mut Vec<u8>) -> Result<(), NoMemory>
-        ensures { OnOk result ((line : List ℕ) (rest : List (List ℕ)) → self.old ≡ line ∷ rest → (self.new ≡ rest) × (text.new.items ≡ text.old.items ++ line)) }
+        ensures moved { OnOk result ((line : List ℕ) (rest : List (List ℕ)) → self.old ≡ line ∷ rest → (self.new ≡ rest) × (text.new.items ≡ text.old.items ++ line)) }
+        ensures none { OnOk result (self.old ≡ [] → (self.new ≡ []) × (text.new.items ≡ text.old.items)) }
+        ensures kept { OnErr result ((self.new ≡ self.old) × (text.new.items ≡ text.old.items)) }
     {
-        if let Some(Line { bytes }) = self.queue.pop_front() {
-            text.extend_from_slice(bytes.as_slice())?;
-        }
+        let Some(line) = self.queue.front() else {
+            return Ok(());
+        };
+        text.extend_from_slice(line.bytes.as_slice())?;
+        let _written = self.queue.pop_front();
         Ok(())
     }
 }

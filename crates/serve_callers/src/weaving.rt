@@ -35,7 +35,8 @@ fn weave_record<O: Drop, Q: Drop>(
     }
 }
 
-/// Appends the lines of the reads in record order, from each caller's lines in order.
+/// Appends the lines of the reads in record order, from each caller's lines in order. After a refusal nothing is said of the lines
+/// and the text.
 pub fn weave<O: Drop, Q: Drop>(
     records: &[Record<O, Q>],
     lines: &mut [Lines],
