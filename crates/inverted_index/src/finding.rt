@@ -1,5 +1,6 @@
 //! Postings that are found.
-ghost use Rattle.std.specs.Prelude.{◌≡◌, ◌<◌, IfOk, IsPermutation, map, []};
+ghost use Rattle.std.specs.Prelude.{◌≡◌, ◌<◌, ℕ, List, IfOk, IsPermutation, length, map, []};
+ghost use Rattle.std.specs.List.Sorted.{IsNonDecreasingBy};
 ghost use Rattle.std.specs.Ordering.{nat_cmp};
 ghost use Rattle.map_model.specs.Entries.{IsIncreasing};
 ghost use Rattle.inverted_index.specs.Merging.{common, common_of, union_all, postings_at};
@@ -51,11 +52,16 @@ pub(crate) fn find_lists<C: Ledger>(
     Ok(found)
 }
 
-/// The smallest first.
+/// The same lists, by their sizes, the smallest first.
 pub(crate) fn by_size(mut lists: Vec<Postings>) -> Result<Vec<Postings>, NoMemory>
-    ensures { IfOk result (λ sorted. IsPermutation lists.items sorted.items) }
+    ensures same { IfOk result (λ sorted. IsPermutation lists.items sorted.items) }
+    ensures rises { IfOk result (λ sorted. IsNonDecreasingBy (λ (list : List (ℕ × ℕ)). length list) sorted.items) }
 {
-    lists.sort_by_key(|list| list.map().size())?;
+    lists.sort_by_key(
+        |list: &Postings| -> u64
+            ensures { result ≡ length list.now }
+        { list.map().size() },
+    )?;
     Ok(lists)
 }
 
