@@ -18,8 +18,8 @@ use std::thread::Threads;
 
 /// Runs `pam` with the words after its name: reads the whole input from `source`, where the tool reads one, then runs its
 /// commands, then writes the replies, or the line of the first bad record, to `sink`. What was taken and what was written are the
-/// `bytes` and the `text` of an `Outcome`, on which neither the runtime nor the gate has a bearing. It may wait where the words ask
-/// for the tools serve and gserve, and for no other: `pam_plain` is the same call without these two.
+/// `bytes` and the `text` of an `Outcome`, on which neither the runtime nor the gate has a bearing. Its code waits in the tools serve
+/// and gserve alone, which no clause says: `pam_plain` is the same call without these two, and has no bound `Wait`.
 pub fn pam<R: Threads + Wait + Sync, S: Source, K: Sink, G: Gate>(
     rt: &R,
     alloc: Global,
