@@ -35,6 +35,12 @@ fn keys_are_found_at_their_places(rt: HostRuntime) {
 }
 
 #[test]
+fn a_block_has_room_for_its_entries_alone(rt: HostRuntime) {
+    let leaf = five(&rt, rt.alloc());
+    assert_eq!(rt; leaf.into_entries().capacity(), 5);
+}
+
+#[test]
 fn an_entry_is_lent_by_its_place(rt: HostRuntime) {
     let leaf = five(&rt, rt.alloc());
     assert_eq!(rt; leaf.len(), 5);
