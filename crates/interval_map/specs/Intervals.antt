@@ -1,8 +1,8 @@
 -- A set of intervals is the list of them, by left end and then by right end. An interval has both its ends.
 use Rattle.std.specs.Prelude.{ℕ, ◌≤◌, ◌<◌, ◌^◌, ◌&&◌, List, ◌∷◌, ◌++◌, nat_le}
-use Rattle.std.specs.List.{AllByRecursion, filter}
+use Rattle.std.specs.List.{AllByRecursion, filter, fold}
 use Rattle.std.specs.List.Sorted.{IsStrictlySortedBy}
-use Rattle.std.specs.Ordering.{is_gt, is_lt, is_ne}
+use Rattle.std.specs.Ordering.{is_ge, is_gt, is_lt, is_ne}
 use Rattle.aug_monoid.specs.Exact.{pair64_cmp}
 use Rattle.aug_monoid.specs.declared.pair64.Pair64.{Pair64}
 
@@ -23,6 +23,10 @@ pub record IsIntervals (is : List Pair64) : Type 0 where
 abbrev pub with_interval : List Pair64 → Pair64 → List Pair64
 with_interval is i = filter (λ j. is_lt (pair64_cmp j i)) is ++ i ∷ filter (λ j. is_gt (pair64_cmp j i)) is
 
+-- the intervals and all of some more
+abbrev pub with_intervals : List Pair64 → List Pair64 → List Pair64
+with_intervals is more = fold with_interval is more
+
 -- the intervals but this one
 abbrev pub without_interval : List Pair64 → Pair64 → List Pair64
 without_interval is i = filter (λ j. is_ne (pair64_cmp j i)) is
@@ -34,3 +38,7 @@ stab is p = filter (λ i. nat_le i.first p && nat_le p i.second) is
 -- the intervals that begin at most at hi and end at least at lo: those that have a number from lo to hi, where lo is at most hi
 abbrev pub overlap : List Pair64 → ℕ → ℕ → List Pair64
 overlap is lo hi = filter (λ i. nat_le i.first hi && nat_le lo i.second) is
+
+-- the intervals from a pair of ends on, in their order
+abbrev pub intervals_from : List Pair64 → Pair64 → List Pair64
+intervals_from is i = filter (λ j. is_ge (pair64_cmp j i)) is

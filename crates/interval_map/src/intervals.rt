@@ -78,6 +78,7 @@ impl Intervals {
 impl Share for Intervals {
     ghost never_refuses = { ⊥ };
 
+    /// The same set, kept once for both: a change of one copies what it changes, and leaves the other as it was. O(1).
     fn share(&self, alloc: Global) -> Result<Intervals, NoMemory> {
         let map = self.map.share(alloc)?;
         Ok(Intervals { map })

@@ -12,5 +12,6 @@ mod asking;
 mod changing;
 mod ends;
 mod intervals;
+mod making;
 
 pub use intervals::Intervals;

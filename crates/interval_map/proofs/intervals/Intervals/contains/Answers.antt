@@ -1,0 +1,10 @@
+use Rattle.std.proofs.Common.{◌↔◌, IsTrue, Contains, List, subst}
+use Rattle.aug_monoid.specs.declared.pair64.Pair64.{Pair64}
+use Rattle.interval_map.proofs.Sets.{has_interval}
+use Rattle.interval_map.proofs.intervals.Intervals.contains.Goals as goal
+
+pub returns : goal.returns
+returns c =
+    let known = has_interval c.self.inside.map.entries c.interval.result c.has_key.result c.has_key.ensures in
+    subst (λ (i : Pair64). IsTrue c.has_key.result ↔ Contains c.args.self.now i) c.interval.ensures
+    (subst (λ (is : List Pair64). IsTrue c.has_key.result ↔ Contains is c.interval.result) c.self.view_is known)

@@ -1,0 +1,41 @@
+//! Sets of many intervals at once.
+ghost use Rattle.std.specs.Prelude.{◌≡◌, [], IfOk};
+ghost use Rattle.std.specs.List.{AllByRecursion};
+ghost use Rattle.std.specs.Map.{keys_of};
+ghost use Rattle.interval_map.specs.Intervals.{IsInterval, with_intervals};
+
+use crate::intervals::{IntervalMap, Intervals};
+use aug_monoid::{First, NoMemory, Pair64};
+use std::alloc::Global;
+
+// An entry for each interval.
+fn entries_of(alloc: Global, intervals: &[Pair64]) -> Result<Vec<(Pair64, ())>, NoMemory>
+    ensures { IfOk result (λ entries. keys_of entries.items ≡ intervals.now) }
+{
+    let mut entries = Vec::with_capacity(alloc, intervals.len())?;
+    for interval in intervals {
+        entries.push((*interval, ()))?;
+    }
+    Ok(entries)
+}
+
+impl Intervals {
+    /// The set of the intervals of a list, whose right ends are at least their left ends. One that comes twice is there once.
+    /// O(n * log n) for n intervals.
+    pub fn from_intervals(alloc: Global, intervals: &[Pair64]) -> Result<Intervals, NoMemory>
+        requires { AllByRecursion IsInterval intervals.now }
+        ensures { IfOk result (λ set. set ≡ with_intervals [] intervals.now) }
+    {
+        let entries = entries_of(alloc, intervals)?;
+        let map = IntervalMap::build_alone(alloc, &entries)?;
+        Ok(Intervals { map })
+    }
+
+    /// The intervals of either set. O(m * log(n / m + 1)) for sets of m and n intervals, m at most n.
+    pub fn union(&self, alloc: Global, other: &Intervals) -> Result<Intervals, NoMemory>
+        ensures { IfOk result (λ set. set ≡ with_intervals self.now other.now) }
+    {
+        let map = self.map.union_alone(alloc, &other.map, &First)?;
+        Ok(Intervals { map })
+    }
+}
