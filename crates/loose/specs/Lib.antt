@@ -1,2 +1,4 @@
+pub mod Arrays
+pub mod Changes
 pub mod Slots
 pub mod Statuses

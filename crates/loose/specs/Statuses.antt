@@ -21,3 +21,8 @@ Answers (Some answer) status before after = Written answer status before after
 abbrev pub into : {X Y : Type 0} → Option X → Option Y → Option Y
 into None made = made
 into (Some _) made = None
+
+-- what two open handles make
+abbrev pub both : {X Y Z : Type 0} → (X → Y → Z) → Option X → Option Y → Option Z
+both f (Some x) (Some y) = Some (f x y)
+both f _ _ = None
