@@ -87,24 +87,27 @@ fn single_items(rt: HostRuntime) -> Result<(), Fail> {
     Ok(())
 }
 
-/// The first and the last of nine numbers.
+/// The first and the last of nine numbers, by a share of their sequence.
 fn ends_of_nine(alloc: Global) -> Result<Option<Pair64>, NoMemory> {
     let nine: Seq<Ends, 2> = SeqOver::from_items(alloc, &[1, 2, 3, 4, 5, 6, 7, 8, 9])?;
-    Ok(nine.sum(alloc))
+    let share = nine.share(alloc)?;
+    Ok(share.sum(alloc))
 }
 
 /// The same of the numbers turned round.
 fn ends_turned<R: Threads + Sync>(rt: &R, alloc: Global) -> Result<Option<Pair64>, NoMemory> {
     let nine: Seq<Ends, 2> = SeqOver::from_items(alloc, &[1, 2, 3, 4, 5, 6, 7, 8, 9])?;
     let turned = nine.reverse(rt, alloc, &FreeGate, Cut::new(4, 1))?;
-    Ok(turned.sum(alloc))
+    let share = turned.share(alloc)?;
+    Ok(share.sum(alloc))
 }
 
 /// The same of the numbers with another at the first place.
 fn ends_changed(alloc: Global) -> Result<Option<Pair64>, NoMemory> {
     let nine: Seq<Ends, 2> = SeqOver::from_items(alloc, &[1, 2, 3, 4, 5, 6, 7, 8, 9])?;
     let other = nine.set(alloc, 0, 7)?;
-    Ok(other.sum(alloc))
+    let share = other.share(alloc)?;
+    Ok(share.sum(alloc))
 }
 
 const fn pair(first: u64, second: u64) -> Option<Pair64> {

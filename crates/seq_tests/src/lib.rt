@@ -11,3 +11,5 @@ mod examples;
 mod growing;
 #[cfg(test)]
 mod lists;
+#[cfg(test)]
+mod sharing;
