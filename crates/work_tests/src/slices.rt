@@ -1,0 +1,40 @@
+//! How many keys are compared where a list is cut.
+
+use crate::changes::Block;
+use crate::counted::Counted;
+use crate::sums::Sums;
+use crate::work::Work;
+use aug_map::{Map, MapOver};
+use entry_lists::cut_slice;
+use std::alloc::Global;
+use std::process::Abort;
+
+/// The numbers below 1000 as keys and values, in the order of a map.
+fn numbers<'a, R: Abort>(rt: &R, alloc: Global, work: &'a Work) -> Map<Sums<'a>, Block<'a>, 32> {
+    let mut pairs = Vec::new(alloc);
+    for number in 0..1000u64 {
+        pairs
+            .push((Counted::new(number, work), number))
+            .expect(rt, "memory");
+    }
+    MapOver::build_alone(alloc, &pairs).expect(rt, "memory")
+}
+
+/// How many keys are compared where they are cut at a key.
+fn compared<R: Abort>(rt: &R, alloc: Global, key: u64) -> u64 {
+    let work = Work::new();
+    let map = numbers(rt, alloc, &work);
+    let list = map.to_vec(alloc).expect(rt, "memory");
+    let _size = map.size(); // for the proof alone: keys rise
+    work.take();
+    let _parts = cut_slice(&list, &Counted::new(key, &work));
+    work.take().compared
+}
+
+// Ten halves of a thousand, and the key itself.
+#[test]
+fn a_list_is_cut_by_halves(rt: HostRuntime) {
+    for key in [0, 500, 900, 2000] {
+        assert!(rt; compared(&rt, rt.alloc(), key) <= 12);
+    }
+}
