@@ -46,3 +46,21 @@ fn a_caller_reads_what_both_sent(rt: HostRuntime) {
     turn(&rt, alloc, &mut store);
     assert_read(&rt, alloc, &mut second, &[(1, 30)]);
 }
+
+/// The number of the version that a caller tries to take, and of the one that it takes then.
+fn numbers<R: Wait + Abort>(rt: &R, alloc: Global, caller: &mut Caller<Served>) -> (u64, u64) {
+    let tried = match caller.try_snapshot(alloc) {
+        Ok(version) => version.number(),
+        Err(_) => panic!(rt; "a version"),
+    };
+    let taken = caller.snapshot(rt, alloc).expect(rt, "memory");
+    (tried, taken.number())
+}
+
+#[test]
+fn a_store_over_the_empty_map_begins_with_number_0(rt: HostRuntime) {
+    let alloc = rt.alloc();
+    let (_store, mut callers) = Store::start(alloc, Served::new(), 1).expect(&rt, "memory");
+    let mut caller = callers.pop().expect(&rt, "a caller");
+    assert_eq!(rt; numbers(&rt, alloc, &mut caller), (0, 0));
+}

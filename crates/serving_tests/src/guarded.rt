@@ -27,6 +27,8 @@ pub(crate) const HELD: u64 = 3;
 #[derive(Drop)]
 pub(crate) struct Guarded {
     pub(crate) total: u64,
+    /// How many copies lie between it and the one that was made first.
+    pub(crate) copies: u64,
     door: Arc<AtomicU64>,
 }
 
@@ -42,7 +44,11 @@ impl Guarded {
     pub(crate) fn new(door: Arc<AtomicU64>, total: u64) -> Guarded
         ensures { result ≡ total }
     {
-        Guarded { total, door }
+        Guarded {
+            total,
+            copies: 0,
+            door,
+        }
     }
 }
 
@@ -65,7 +71,11 @@ impl Share for Guarded {
             TRAP => wait_at(&self.door),
             _ => {}
         }
-        Ok(Guarded::new(Arc::try_clone(&self.door)?, self.total))
+        Ok(Guarded {
+            total: self.total,
+            copies: self.copies.saturating_add(1),
+            door: Arc::try_clone(&self.door)?,
+        })
     }
 }
 
