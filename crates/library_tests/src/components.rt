@@ -164,6 +164,30 @@ fn a_long_path_in_leaps_is_one_component(rt: HostRuntime) {
     assert_eq!(rt; all_have(&rt, rt.alloc(), &list, 0), (100_000, true));
 }
 
+/// Edges that hang each vertex up to `depth` below the one before it, and then as many that begin above them and lead to the last one.
+fn deep<R: Abort>(rt: &R, alloc: Global, depth: u64) -> Vec<Edge> {
+    let mut list = Vec::new(alloc);
+    for turn in 1..depth {
+        let from = depth.saturating_add(turn);
+        let to = depth.saturating_sub(turn);
+        for (from, to) in [
+            (from, to),
+            (from, to.saturating_add(1)),
+            (from.saturating_add(depth), depth),
+        ] {
+            list.push(Edge { from, to }).expect(rt, "memory");
+        }
+    }
+    list
+}
+
+// Where each climb from the last one went all the way, they would take minutes, and a test has one.
+#[test]
+fn a_deep_tree_is_not_climbed_each_time(rt: HostRuntime) {
+    let list = deep(&rt, rt.alloc(), 300_000);
+    assert_eq!(rt; all_have(&rt, rt.alloc(), &list, 1), (899_998, true));
+}
+
 /// Whether two halves met.
 fn halves_meet<R: Threads + Abort + Sync>(rt: &R, alloc: Global, list: &[Edge]) -> bool {
     let graph = graph_of(rt, alloc, list);

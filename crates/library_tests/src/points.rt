@@ -1,7 +1,8 @@
 //! Points in the plane, with sums and lists that were reckoned by hand. Where memory is refused, a test ends here.
-use aug_monoid::{Augment, Pair64, Share};
+use aug_monoid::{Augment, Leaf, Pair64, Share};
 use fork_join::{Cut, FreeGate};
-use range_tree::{Places, Point, Points, Rect, points_cross};
+use range_tree::{Places, Point, Points, Rect, Rows, points_cross};
+use row_leaf::RowLeaf;
 use std::alloc::Global;
 use std::marker::Sync;
 use std::process::Abort;
@@ -206,4 +207,24 @@ fn the_points_stand_by_rows_too(rt: HostRuntime) {
     let ends = (row(1, 1, 10), row(5, 1, 50), 5);
     assert_eq!(rt; ends_by_rows(&rt, rt.alloc(), &points), Some(ends));
     assert_eq!(rt; ends_by_rows(&rt, rt.alloc(), &Points::new()), None);
+}
+
+/// The rows of a block of two points.
+fn rows_of_two<R: Abort>(rt: &R, alloc: Global) -> Option<Rows> {
+    let low = Pair64 {
+        first: 1,
+        second: 2,
+    };
+    let high = Pair64 {
+        first: 2,
+        second: 1,
+    };
+    let leaf = RowLeaf::from_entries(alloc, &[(low, 10), (high, 20)]).expect(rt, "memory");
+    Places::fold_at_once(alloc, &leaf).expect(rt, "memory")
+}
+
+// A block whose rows are not made at once has them made of each of its points, one union after another.
+#[test]
+fn the_rows_of_a_block_are_made_at_once(rt: HostRuntime) {
+    assert!(rt; rows_of_two(&rt, rt.alloc()).is_some());
 }
