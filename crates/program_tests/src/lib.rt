@@ -8,6 +8,8 @@ mod checks;
 #[cfg(test)]
 mod faults;
 #[cfg(test)]
+mod largest;
+#[cfg(test)]
 mod many_puts;
 #[cfg(test)]
 mod plainly;

@@ -316,6 +316,7 @@ fn the_sample_reads_nothing(rt: HostRuntime) {
 /// Inputs with a bad record, and the line that names the first one.
 const FAULTS: &[Row] = &[
     ("map", b"put,0,5,10\nfrob\nput,16,1,1\n", b"error,2,verb\n"),
+    ("map", b"put,16,1,1\n", b"error,1,register\n"),
     ("map", b"cat,0,1,16\n", b"error,1,register\n"),
     ("map", b"union,0,1,2,least\n", b"error,1,how\n"),
     ("map", b"Put,0,5,10\n", b"error,1,verb\n"),

@@ -198,3 +198,39 @@ fn texts_of_lawful_inputs_of_gserve(rt: HostRuntime) -> Result<(), Fail> {
 fn the_line_of_the_first_bad_record_of_gserve(rt: HostRuntime) -> Result<(), Fail> {
     check_all(&rt, rt.alloc(), "gserve", FAULTY_GRAPHS, Status::BadRecord)
 }
+
+/// The input, with its last line ended.
+fn ended(alloc: Global, input: &[u8]) -> Result<Vec<u8>, Fail> {
+    let mut text = Vec::from_slice(alloc, input)?;
+    if !input.is_empty() && !input.ends_with(b"\n") {
+        text.push(b'\n')?;
+    }
+    Ok(text)
+}
+
+/// What the tool check says of the text that serve writes on so many workers.
+fn verdict(
+    rt: &(impl Abort + Threads + Wait + Sync),
+    alloc: Global,
+    input: &[u8],
+    workers: &'static str,
+) -> Result<Vec<u8>, Fail> {
+    let edge = sound_edge(1000, 1000);
+    let (_status, text) = run(rt, alloc, "serve", workers, input, &edge, &FreeGate)?;
+    let mut told = ended(alloc, input)?;
+    told.extend_from_slice(b"run\n")?;
+    told.extend_from_slice(&text)?;
+    let (_status, verdict) = run(rt, alloc, "check", workers, &told, &edge, &FreeGate)?;
+    Ok(verdict)
+}
+
+#[test]
+fn what_serve_writes_is_checked(rt: HostRuntime) -> Result<(), Fail> {
+    for (input, _texts) in LAWFUL {
+        for workers in ["1", "4", "64"] {
+            let verdict = verdict(&rt, rt.alloc(), input, workers)?;
+            assert_eq!(rt; verdict.as_slice(), b"yes\n".as_slice());
+        }
+    }
+    Ok(())
+}
