@@ -1,0 +1,15 @@
+//! What forks by the program's settings, and in batches of served states: seen by a gate, or by the threads that the process has.
+//!
+//! Tests: here. Wrong bodies: none; a test promises nothing.
+#![tactic(auto)]
+
+#[cfg(test)]
+mod batches;
+#[cfg(test)]
+mod runs;
+#[cfg(test)]
+mod served;
+#[cfg(test)]
+mod tools;
+#[cfg(test)]
+mod watch;
