@@ -120,11 +120,12 @@ static void unite(void)
 static void walk(void)
 {
     pam_map m = built(0, size);
-    uint64_t from = 0, count;
+    uint64_t from = 0;
+    size_t count;
     start();
     do {
         must(pam_map_fill(&m, from, more, 1024, vals, 1024, &count));
-        for (uint64_t i = 0; i < count; i++)
+        for (size_t i = 0; i < count; i++)
             checksum += more[i] ^ vals[i];
         from = count ? more[count - 1] + 1 : 0;
     } while (count == 1024);
@@ -139,7 +140,7 @@ static void bytes(int rising, int back)
         vals[i] %= 128;
     }
     pam_map m = built(0, size), again = {0};
-    uint64_t needed;
+    size_t needed;
     uint8_t *out = malloc(size * 20 + 64);
     if (!back)
         start();

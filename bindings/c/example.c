@@ -13,7 +13,7 @@ static void must(uint8_t status, const char *what)
     }
 }
 
-static void tell(const char *name, const pam_map *m, uint64_t lo, uint64_t hi)
+static void tell(const char *name, pam_map *m, uint64_t lo, uint64_t hi)
 {
     uint64_t len, sum, greatest;
 
@@ -41,9 +41,10 @@ int main(void)
     must(pam_map_union(&day, &late, PAM_SUM, &both), "union");
     tell("both", &both, 540, 600);
 
-    uint64_t keys[8], vals[8], count;
+    uint64_t keys[8], vals[8];
+    size_t count;
     must(pam_map_fill(&both, 0, keys, 8, vals, 8, &count), "fill");
-    for (uint64_t i = 0; i < count; i++)
+    for (size_t i = 0; i < count; i++)
         printf("%" PRIu64 " %" PRIu64 "\n", keys[i], vals[i]);
 
     pam_map_free(&both);

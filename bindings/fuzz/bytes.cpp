@@ -13,9 +13,9 @@ namespace {
 using Bytes = std::vector<uint8_t>;
 uint64_t refused = 0, accepted = 0;
 
-Bytes written(const Run &run, const pam_map &m)
+Bytes written(const Run &run, pam_map &m)
 {
-    uint64_t needed;
+    size_t needed;
     EXPECT(pam_map_bytes(&m, nullptr, 0, &needed) == PAM_NO_ROOM);
     Bytes bytes(needed);
     EXPECT(pam_map_bytes(&m, bytes.data(), bytes.size(), &needed) == PAM_OK && needed == bytes.size());
@@ -54,7 +54,7 @@ Bytes of_some_map(Run &run)
 void turned(Run &run, const Bytes &bytes)
 {
     read(run, bytes);
-    for (size_t at = 0; at < bytes.size(); at++) {
+    for (size_t at = 0; at < bytes.size() && run.goes_on(); at++) {
         read(run, Bytes(bytes.begin(), bytes.begin() + at));
         for (int bit = 0; bit < 8; bit++) {
             Bytes other = bytes;
@@ -109,7 +109,7 @@ int main(int count, char **words)
         Bytes bytes = of_some_map(run);
         if (run.steps % 8 == 0)
             turned(run, bytes);
-        for (int i = 0; i < 100; i++)
+        for (int i = 0; i < 100 && run.goes_on(); i++)
             mixed(run, bytes);
         Bytes any(run.below(64));
         for (auto &byte : any)

@@ -66,9 +66,10 @@ struct Maps {
         return twin;
     }
 
-    void same(const pam_map &m, const Twin &twin)
+    void same(pam_map &m, const Twin &twin)
     {
-        uint64_t len, count, room = twin.size() + run.below(3);
+        uint64_t len;
+        size_t count, room = twin.size() + run.below(3);
         EXPECT(pam_map_len(&m, &len) == PAM_OK && len == twin.size());
         Numbers keys(room), vals(room);
         EXPECT(pam_map_fill(&m, 0, keys.data(), room, vals.data(), room, &count) == PAM_OK && count == len);
@@ -122,7 +123,7 @@ struct Maps {
         }
     }
 
-    void asked(const pam_map &m, const Twin &twin)
+    void asked(pam_map &m, const Twin &twin)
     {
         uint64_t key = run.key(), found = 0, val = 0, rank;
         auto below = twin.lower_bound(key), above = twin.upper_bound(key);
@@ -136,7 +137,7 @@ struct Maps {
         EXPECT(pam_map_select(&m, UINT64_MAX, &found, &val) == PAM_NOT_THERE);
     }
 
-    void folded(const pam_map &m, const Twin &twin)
+    void folded(pam_map &m, const Twin &twin)
     {
         uint64_t lo = run.key(), hi = run.key();
         Folded all, some, wanted;
@@ -151,9 +152,10 @@ struct Maps {
         EXPECT(some == wanted);
     }
 
-    void filled(const pam_map &m, const Twin &twin)
+    void filled(pam_map &m, const Twin &twin)
     {
-        uint64_t from = run.key(), room = run.below(200), count;
+        uint64_t from = run.key();
+        size_t room = run.below(200), count;
         Numbers keys(room), vals(room);
         EXPECT(pam_map_fill(&m, from, keys.data(), room, vals.data(), room, &count) == PAM_OK && count <= room);
         auto at = twin.lower_bound(from);
@@ -183,7 +185,7 @@ struct Maps {
             EXPECT(pam_map_get_many(&m, keys.data(), keys.size(), found.data(), found.size(), present.data(), present.size()) == PAM_OK);
             for (size_t i = 0; i < keys.size(); i++) {
                 auto at = twin.find(keys[i]);
-                EXPECT(present[i] == (at != twin.end()) && (!present[i] || found[i] == at->second));
+                EXPECT(present[i] == (at != twin.end()) && found[i] == (present[i] ? at->second : 0));
             }
         }
         same(m, twin);
@@ -248,7 +250,7 @@ struct Maps {
         if (run.below(2)) {
             EXPECT(pam_map_share(&maps[from], &out) == PAM_OK);
         } else {
-            uint64_t needed, room;
+            size_t needed, room;
             EXPECT(pam_map_bytes(&maps[from], nullptr, 0, &needed) == PAM_NO_ROOM);
             std::vector<uint8_t> bytes(needed);
             EXPECT(pam_map_bytes(&maps[from], bytes.data(), needed - 1, &room) == PAM_NO_ROOM && room == needed);
@@ -262,21 +264,22 @@ struct Maps {
     void refused(pam_map &m, const Twin &twin)
     {
         pam_map closed = {};
-        uint64_t two[2] = {1, 2}, x = 5, y = 6;
+        uint64_t two[2] = {1, 2}, x = 5;
+        size_t count = 6;
         uint8_t marks[2] = {8, 8};
         EXPECT(pam_map_put(&closed, 1, 1) == PAM_BAD_CALL && pam_map_get(&closed, 1, &x) == PAM_BAD_CALL);
         EXPECT(pam_map_new(&m) == PAM_BAD_CALL && pam_map_share(&closed, &closed) == PAM_BAD_CALL);
         EXPECT(pam_map_share(&m, &m) == PAM_BAD_CALL && pam_map_union(&m, &closed, PAM_SUM, &closed) == PAM_BAD_CALL);
         EXPECT(pam_map_union(&m, &m, 4, &closed) == PAM_BAD_CALL && pam_map_intersection(&m, &m, 255, &closed) == PAM_BAD_CALL);
-        EXPECT(pam_map_build(&closed, two, 2, two, 1) == PAM_BAD_CALL && pam_map_build(&m, two, 2, two, 2) == PAM_BAD_CALL);
-        EXPECT(pam_map_put_many(&m, two, 1, two, 2) == PAM_BAD_CALL && pam_map_fill(&m, 0, two, 2, two, 1, &x) == PAM_BAD_CALL);
-        EXPECT(pam_map_get_many(&m, two, 2, two, 2, marks, 1) == PAM_BAD_CALL && marks[0] == 8);
+        EXPECT(pam_map_build(&closed, two, 1, two + 1, 0) == PAM_BAD_CALL && pam_map_build(&m, two, 1, two + 1, 1) == PAM_BAD_CALL);
+        EXPECT(pam_map_put_many(&m, two, 0, two, 2) == PAM_BAD_CALL && pam_map_fill(&m, 0, two, 1, two + 1, 0, &count) == PAM_BAD_CALL);
+        EXPECT(pam_map_get_many(&m, two, 1, two + 1, 1, marks, 2) == PAM_BAD_CALL && marks[0] == 8);
         EXPECT(pam_map_put(nullptr, 1, 1) == PAM_BAD_CALL && pam_map_free(nullptr) == PAM_BAD_CALL && pam_map_len(&m, nullptr) == PAM_BAD_CALL);
         EXPECT(pam_map_get(&m, 1, nullptr) == PAM_BAD_CALL && pam_map_fold(&m, &x, nullptr) == PAM_BAD_CALL);
         EXPECT(pam_map_put_many(&m, nullptr, 1, two, 1) == PAM_BAD_CALL && pam_map_put_many(&m, nullptr, 0, nullptr, 0) == PAM_OK);
         EXPECT(pam_map_from_bytes(&m, marks, 2) == PAM_BAD_CALL && pam_map_from_bytes(&closed, nullptr, 5) == PAM_BAD_CALL);
         EXPECT(pam_map_from_bytes(&closed, nullptr, 0) == PAM_NOT_A_MAP);
-        EXPECT(x == 5 && y == 6 && two[0] == 1 && two[1] == 2 && closed.at == nullptr && closed.state == 0);
+        EXPECT(x == 5 && count == 6 && two[0] == 1 && two[1] == 2 && closed.at == nullptr && closed.state == 0);
         same(m, twin);
     }
 
@@ -317,14 +320,15 @@ struct Seqs {
             EXPECT(pam_seq_free(&s) == PAM_OK && pam_seq_free(&s) == PAM_OK);
     }
 
-    void same(const pam_seq &s, const Numbers &twin, uint64_t from = 0)
+    void same(pam_seq &s, const Numbers &twin, uint64_t from = 0)
     {
-        uint64_t len, count, room = run.below(2) ? twin.size() + 1 : run.below(100);
+        uint64_t len;
+        size_t count, room = run.below(2) ? twin.size() + 1 : run.below(100);
         EXPECT(pam_seq_len(&s, &len) == PAM_OK && len == twin.size());
         Numbers items(room);
         EXPECT(pam_seq_fill(&s, from, items.data(), room, &count) == PAM_OK);
         uint64_t left = from < len ? len - from : 0;
-        EXPECT(count == std::min(room, left) && (count == 0 || std::equal(items.begin(), items.begin() + count, twin.begin() + from)));
+        EXPECT(count == std::min<uint64_t>(room, left) && (count == 0 || std::equal(items.begin(), items.begin() + count, twin.begin() + from)));
     }
 
     void replace(int at, pam_seq &out, Numbers twin)
@@ -360,7 +364,7 @@ struct Seqs {
         }
     }
 
-    void folded(const pam_seq &s, const Numbers &twin)
+    void folded(pam_seq &s, const Numbers &twin)
     {
         uint64_t from = run.below(4) ? run.below(twin.size() + 2) : run.number(), count = run.below(4) ? run.below(twin.size() + 2) : run.number();
         Folded all, some, wanted, wanted_some;
@@ -474,7 +478,7 @@ struct Sets {
     void asked()
     {
         auto [lo, hi] = interval();
-        uint64_t room = run.below(3) ? twin.size() : run.below(5), count;
+        size_t room = run.below(3) ? twin.size() : run.below(5), count;
         Numbers lefts(room), rights(room);
         uint8_t status = pam_intervals_stab(&set, lo, lefts.data(), room, rights.data(), room, &count);
         listed(status, count, lefts, rights, lo, lo);
@@ -487,7 +491,8 @@ struct Sets {
     void filled()
     {
         Interval from = {run.key(), run.key()};
-        uint64_t room = run.below(100), count, len;
+        uint64_t len;
+        size_t room = run.below(100), count;
         Numbers lefts(room), rights(room);
         EXPECT(pam_intervals_fill(&set, from.first, from.second, lefts.data(), room, rights.data(), room, &count) == PAM_OK);
         auto at = twin.lower_bound(from);
@@ -515,11 +520,12 @@ struct Sets {
     void refused()
     {
         pam_intervals closed = {};
-        uint64_t two[2] = {2, 1}, count = 9;
+        uint64_t two[2] = {2, 1};
+        size_t count = 9;
         EXPECT(pam_intervals_add(&set, 5, 4) == PAM_BAD_CALL && pam_intervals_add(&closed, 1, 2) == PAM_BAD_CALL);
-        EXPECT(pam_intervals_build(&closed, two, 2, two + 1, 1) == PAM_BAD_CALL && pam_intervals_build(&closed, two, 1, two + 1, 1) == PAM_BAD_CALL);
-        EXPECT(pam_intervals_overlapping(&set, 5, 4, two, 2, two, 2, &count) != PAM_NO_MEMORY);
-        EXPECT(pam_intervals_add(nullptr, 1, 2) == PAM_BAD_CALL && pam_intervals_stab(&set, 1, two, 2, two, 1, &count) == PAM_BAD_CALL);
+        EXPECT(pam_intervals_build(&closed, two, 1, two + 1, 0) == PAM_BAD_CALL && pam_intervals_build(&closed, two, 1, two + 1, 1) == PAM_BAD_CALL);
+        EXPECT(pam_intervals_overlapping(&set, 5, 4, two, 1, two + 1, 1, &count) == PAM_BAD_CALL);
+        EXPECT(pam_intervals_add(nullptr, 1, 2) == PAM_BAD_CALL && pam_intervals_stab(&set, 1, two, 1, two + 1, 0, &count) == PAM_BAD_CALL);
         EXPECT(closed.at == nullptr && closed.state == 0);
         filled();
     }

@@ -34,7 +34,7 @@ class Intervals(Held, Collection):  # type: ignore[type-arg]
     def __init__(self, intervals: Iterable[Interval] = (), /) -> None:
         """The set of some intervals. O(n log n); ValueError where a left end is greater than its right one."""
         if isinstance(intervals, Intervals):
-            check(lib.pam_intervals_share(intervals._handle, self._handle))
+            check(lib.pam_intervals_share(intervals._ref, self._ref))
             return
         lefts, rights = array.array("Q"), array.array("Q")
         for left, right in intervals:
@@ -57,7 +57,7 @@ class Intervals(Held, Collection):  # type: ignore[type-arg]
         lefts, rights = lent(lefts), lent(rights)
         if lefts.length != rights.length:
             raise ValueError(f"{lefts.length} left ends and {rights.length} right ends")
-        status = lib.pam_intervals_build(self._handle, *lefts, *rights)
+        status = lib.pam_intervals_build(self._ref, *lefts, *rights)
         if status == BAD_CALL:
             raise ValueError("pam: a left end is greater than its right end, or the set was built before")
         check(status)
@@ -70,7 +70,7 @@ class Intervals(Held, Collection):  # type: ignore[type-arg]
         >>> a
         Intervals([(1, 5)])
         """
-        check(lib.pam_intervals_add(self._handle, *_pair(left, right)))
+        check(lib.pam_intervals_add(self._ref, *_pair(left, right)))
 
     def discard(self, left: int, right: int) -> None:
         """Removes an interval, if it is there. O(log n)."""
@@ -82,7 +82,7 @@ class Intervals(Held, Collection):  # type: ignore[type-arg]
             raise KeyError((left, right))
 
     def _removed(self, left: int, right: int) -> bool:
-        status = lib.pam_intervals_del(self._handle, number(left), number(right))
+        status = lib.pam_intervals_del(self._ref, number(left), number(right))
         if status == NOT_THERE:
             return False
         check(status)
@@ -94,7 +94,7 @@ class Intervals(Held, Collection):  # type: ignore[type-arg]
         >>> Intervals([(1, 5)]).covers(5), Intervals([(1, 5)]).covers(6)
         (True, False)
         """
-        status = lib.pam_intervals_any(self._handle, number(point))
+        status = lib.pam_intervals_any(self._ref, number(point))
         if status == NOT_THERE:
             return False
         check(status)
@@ -120,7 +120,7 @@ class Intervals(Held, Collection):  # type: ignore[type-arg]
         room, count = ROOM, Number()
         while True:
             lefts, rights = zeros(room), zeros(room)
-            status = call(self._handle, *words, *lent(lefts), *lent(rights), count)
+            status = call(self._ref, *words, *lent(lefts), *lent(rights), count)
             if status != NO_ROOM:
                 check(status)
                 return list(zip(lefts[: count.value], rights))
@@ -132,7 +132,7 @@ class Intervals(Held, Collection):  # type: ignore[type-arg]
 
     def _filled(self, left: int, right: int, room: int) -> List[Interval]:
         lefts, rights, count = zeros(room), zeros(room), Number()
-        check(lib.pam_intervals_fill(self._handle, left, right, *lent(lefts), *lent(rights), count))
+        check(lib.pam_intervals_fill(self._ref, left, right, *lent(lefts), *lent(rights), count))
         return list(zip(lefts[: count.value], rights))
 
     def _blocks(self) -> Iterator[List[Interval]]:

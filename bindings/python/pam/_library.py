@@ -9,40 +9,29 @@ import ctypes.util
 import os
 import pathlib
 import sys
-from typing import Any, Dict, Iterator, List, Tuple, Type, TypeVar
+from typing import Any, Callable, Dict, Iterator, List, Type, TypeVar
 
 OK, NOT_THERE, NO_ROOM, NOT_A_MAP, BAD_CALL, NO_MEMORY = 0, 1, 2, 3, 4, 7
 RESOLUTIONS = {"first": 0, "second": 1, "sum": 2, "max": 3}
 
 
-class MapHandle(ctypes.Structure):
-    _fields_ = [("at", ctypes.c_void_p), ("state", ctypes.c_uint64)]
-
-
-class SeqHandle(ctypes.Structure):
-    _fields_ = [("at", ctypes.c_void_p), ("state", ctypes.c_uint64)]
-
-
-class IntervalsHandle(ctypes.Structure):
-    _fields_ = [("at", ctypes.c_void_p), ("state", ctypes.c_uint64)]
-
-
 # The parameters of each call after its first handle: a number, where one is written to, a byte, a handle, an array with its length.
-_SIGNATURES: Dict[Any, Tuple[str, Dict[str, str]]] = {
-    MapHandle: ("pam_map_", {
+# A size_t is a number, as the library is of 64-bit machines.
+_SIGNATURES = {
+    "pam_map_": {
         "new": "", "free": "", "share": "h", "len": "w", "get": "nw", "put": "nn", "del": "n", "fold": "ww", "fold_range": "nnww",
         "rank": "nw", "select": "nww", "next": "nww", "prev": "nww", "first": "ww", "last": "ww", "union": "hbh",
         "intersection": "hbh", "difference": "hh", "split": "nhh", "range": "nnh", "fill": "naaw", "build": "aa",
         "put_many": "aa", "get_many": "aaa", "del_many": "a", "bytes": "aw", "from_bytes": "a",
-    }),
-    SeqHandle: ("pam_seq_", {
+    },
+    "pam_seq_": {
         "new": "", "free": "", "share": "h", "len": "w", "get": "nw", "set": "nn", "push": "n", "push_many": "a", "build": "a",
         "append": "hh", "take": "nh", "skip": "nh", "reverse": "h", "fold": "ww", "fold_range": "nnww", "fill": "naw",
-    }),
-    IntervalsHandle: ("pam_intervals_", {
+    },
+    "pam_intervals_": {
         "new": "", "free": "", "share": "h", "len": "w", "add": "nn", "del": "nn", "any": "n", "build": "aa", "stab": "naaw",
         "overlapping": "nnaaw", "fill": "nnaaw",
-    }),
+    },
 }  # fmt: skip
 
 
@@ -72,21 +61,49 @@ def _load() -> ctypes.PyDLL:
 
 
 def _declare(library: ctypes.PyDLL) -> None:
-    array = [ctypes.c_void_p, ctypes.c_size_t]
-    for handle, (prefix, calls) in _SIGNATURES.items():
-        pointer = ctypes.POINTER(handle)
-        number, where, byte = ctypes.c_uint64, ctypes.POINTER(ctypes.c_uint64), ctypes.c_uint8
-        types: Dict[str, List[Any]] = {"n": [number], "w": [where], "b": [byte], "h": [pointer], "a": array}
+    # A handle is handed on by a reference made once, which ctypes need not convert.
+    handle, number, where, byte = ctypes.c_void_p, ctypes.c_uint64, ctypes.POINTER(ctypes.c_uint64), ctypes.c_uint8
+    types: Dict[str, List[Any]] = {
+        "n": [number],
+        "w": [where],
+        "b": [byte],
+        "h": [handle],
+        "a": [ctypes.c_void_p, ctypes.c_size_t],
+    }
+    for prefix, calls in _SIGNATURES.items():
         for name, letters in calls.items():
             call = getattr(library, prefix + name)
             call.restype = ctypes.c_uint8
-            call.argtypes = [pointer] + [kind for letter in letters for kind in types[letter]]
+            call.argtypes = [handle] + [kind for letter in letters for kind in types[letter]]
 
 
 lib = _load()
 _declare(lib)
 
 Number = ctypes.c_uint64
+
+
+class Handle(ctypes.Structure):
+    """A handle, which is freed with its memory; zeros are closed."""
+
+    _fields_ = [("at", ctypes.c_void_p), ("state", ctypes.c_uint64)]
+    free: Callable[[Any], int]
+
+    # `byref` by name, since the module may be gone before the last handle.
+    def __del__(self, byref: Any = ctypes.byref) -> None:
+        self.free(byref(self))
+
+
+class MapHandle(Handle):
+    free = lib.pam_map_free
+
+
+class SeqHandle(Handle):
+    free = lib.pam_seq_free
+
+
+class IntervalsHandle(Handle):
+    free = lib.pam_intervals_free
 
 
 def check(status: int) -> None:
@@ -103,15 +120,16 @@ Self = TypeVar("Self", bound="Held")
 
 
 class Held:
-    """An object with a handle of the library, freed with it."""
+    """An object with a handle of the library."""
 
-    _Handle: Type[ctypes.Structure]
     _prefix: str
-    _handle: Any
+    _Handle: Type[Handle]
+    # The handle by reference, which keeps it: a thread that is about to call with it does so, though another puts a new one here.
+    _ref: Any
 
     def __new__(cls: Type[Self], *_words: object, **_named: object) -> Self:
         self = super().__new__(cls)
-        self._handle = cls._Handle()
+        self._ref = ctypes.byref(cls._Handle())
         return self
 
     @classmethod
@@ -121,22 +139,17 @@ class Held:
 
     def close(self) -> None:
         """Frees it now. Any later call on it raises ValueError, and closing it again does nothing."""
-        getattr(lib, self._prefix + "free")(self._handle)
-
-    def __del__(self) -> None:
-        # Neither exists where the interpreter is on its way out, or where __new__ raised.
-        if lib is not None and getattr(self, "_handle", None) is not None:
-            self.close()
+        check(self._Handle.free(self._ref))
 
     def __len__(self) -> int:
         count = Number()
-        check(getattr(lib, self._prefix + "len")(self._handle, count))
+        check(getattr(lib, self._prefix + "len")(self._ref, count))
         return count.value
 
     def copy(self: Self) -> Self:
         """A snapshot in O(1): it shares all memory, and no change of one is seen in the other."""
         out = self._empty()
-        check(getattr(lib, self._prefix + "share")(self._handle, out._handle))
+        check(getattr(lib, self._prefix + "share")(self._ref, out._ref))
         return out
 
     __copy__ = copy
@@ -146,5 +159,5 @@ class Held:
 
     def _take_over(self, other: "Held") -> None:
         """Becomes what the other is, which becomes what this was."""
-        self._handle, other._handle = other._handle, self._handle
+        self._ref, other._ref = other._ref, self._ref
 

@@ -58,7 +58,7 @@ class Map(Held, MutableMapping):  # type: ignore[type-arg]
         Map({1: 11, 2: 20})
         """
         if isinstance(source, Map):
-            check(lib.pam_map_share(source._handle, self._handle))
+            check(lib.pam_map_share(source._ref, self._ref))
         else:
             self._build(*self._columns(source))
 
@@ -71,7 +71,7 @@ class Map(Held, MutableMapping):  # type: ignore[type-arg]
         return keys, vals
 
     def _build(self, keys: Numbers, vals: Numbers) -> None:
-        status = lib.pam_map_build(self._handle, *_two_arrays(keys, vals))
+        status = lib.pam_map_build(self._ref, *_two_arrays(keys, vals))
         if status == BAD_CALL:
             raise ValueError("pam: it was built before")
         check(status)
@@ -99,7 +99,7 @@ class Map(Held, MutableMapping):  # type: ignore[type-arg]
         >>> m
         Map({1: 11, 2: 20})
         """
-        check(lib.pam_map_put_many(self._handle, *_two_arrays(keys, vals)))
+        check(lib.pam_map_put_many(self._ref, *_two_arrays(keys, vals)))
 
     def get_many(self, keys: Numbers) -> "Tuple[array.array[int], bytearray]":
         """The values at keys, 0 where one is absent, and a byte for each that is 1 where it is there. O(m log n) for m keys.
@@ -109,7 +109,7 @@ class Map(Held, MutableMapping):  # type: ignore[type-arg]
         """
         keys = lent(keys)
         vals, present = zeros(keys.length), bytearray(keys.length)
-        check(lib.pam_map_get_many(self._handle, *keys, *lent(vals), *lent_bytes(present)))
+        check(lib.pam_map_get_many(self._ref, *keys, *lent(vals), *lent_bytes(present)))
         return vals, present
 
     def del_many(self, keys: Numbers) -> None:
@@ -120,7 +120,7 @@ class Map(Held, MutableMapping):  # type: ignore[type-arg]
         >>> m
         Map({2: 20})
         """
-        check(lib.pam_map_del_many(self._handle, *lent(keys)))
+        check(lib.pam_map_del_many(self._ref, *lent(keys)))
 
     def items_arrays(self, lo: Optional[int] = None, hi: Optional[int] = None) -> "Tuple[array.array[int], array.array[int]]":
         """The keys from lo up to hi and their values, as two arrays in the order of keys. O(log n + m) for m entries.
@@ -144,7 +144,7 @@ class Map(Held, MutableMapping):  # type: ignore[type-arg]
     def _filled(self, first: int, count: int):
         """The first entries with keys at least first, which has to have so many."""
         keys, vals, found = zeros(count), zeros(count), Number()
-        check(lib.pam_map_fill(self._handle, first, *lent(keys), *lent(vals), found))
+        check(lib.pam_map_fill(self._ref, first, *lent(keys), *lent(vals), found))
         return keys, vals
 
     # Single entries
@@ -152,7 +152,7 @@ class Map(Held, MutableMapping):  # type: ignore[type-arg]
     def _find(self, key: int) -> Optional[int]:
         key = operator.index(key)
         val = Number()
-        status = lib.pam_map_get(self._handle, key, val) if 0 <= key < LIMIT else NOT_THERE
+        status = lib.pam_map_get(self._ref, key, val) if 0 <= key < LIMIT else NOT_THERE
         if status == OK:
             return val.value
         if status != NOT_THERE:
@@ -183,7 +183,7 @@ class Map(Held, MutableMapping):  # type: ignore[type-arg]
 
     def __setitem__(self, key: int, val: int) -> None:
         """Sets a key to a value. O(log n)."""
-        status = lib.pam_map_put(self._handle, number(key), number(val))
+        status = lib.pam_map_put(self._ref, number(key), number(val))
         if status:
             check(status)
 
@@ -199,7 +199,7 @@ class Map(Held, MutableMapping):  # type: ignore[type-arg]
             self._cut(key)
             return
         found = operator.index(key)
-        status = lib.pam_map_del(self._handle, found) if 0 <= found < LIMIT else NOT_THERE
+        status = lib.pam_map_del(self._ref, found) if 0 <= found < LIMIT else NOT_THERE
         if status == NOT_THERE:
             raise KeyError(key)
         check(status)
@@ -240,7 +240,7 @@ class Map(Held, MutableMapping):  # type: ignore[type-arg]
 
     def _select(self, place: int) -> Tuple[int, int]:
         key, val = Number(), Number()
-        check(lib.pam_map_select(self._handle, place, key, val))
+        check(lib.pam_map_select(self._ref, place, key, val))
         return key.value, val.value
 
     def popitem(self, index: int = -1) -> Tuple[int, int]:
@@ -276,7 +276,7 @@ class Map(Held, MutableMapping):  # type: ignore[type-arg]
 
     def _rank(self, key: int) -> int:
         place = Number()
-        check(lib.pam_map_rank(self._handle, key, place))
+        check(lib.pam_map_rank(self._ref, key, place))
         return place.value
 
     def next_item(self, key: int) -> Optional[Tuple[int, int]]:
@@ -299,11 +299,11 @@ class Map(Held, MutableMapping):  # type: ignore[type-arg]
     def _fold(self, lo: Optional[int], hi: Optional[int]) -> Tuple[int, int]:
         total, greatest = Number(), Number()
         if lo is None and hi is None:
-            check(lib.pam_map_fold(self._handle, total, greatest))
+            check(lib.pam_map_fold(self._ref, total, greatest))
             return total.value, greatest.value
         ends = _closed(lo, hi)
         # A range with no keys is asked as one that none is in, so that a closed map is found.
-        check(lib.pam_map_fold_range(self._handle, *(ends or (1, 0)), total, greatest))
+        check(lib.pam_map_fold_range(self._ref, *(ends or (1, 0)), total, greatest))
         return total.value, greatest.value
 
     def sum(self, lo: Optional[int] = None, hi: Optional[int] = None) -> int:
@@ -339,7 +339,7 @@ class Map(Held, MutableMapping):  # type: ignore[type-arg]
             raise ValueError("a slice of a map has no step")
         ends = _closed(part.start, part.stop)
         out = self._empty()
-        check(lib.pam_map_range(self._handle, *(ends or (1, 0)), out._handle))
+        check(lib.pam_map_range(self._ref, *(ends or (1, 0)), out._ref))
         return out
 
     def _cut(self, part: slice) -> None:
@@ -387,7 +387,7 @@ class Map(Held, MutableMapping):  # type: ignore[type-arg]
         if not isinstance(other, Map):
             raise TypeError(f"wanted a Map, not {type(other).__name__}")
         out = self._empty()
-        check(call(self._handle, other._handle, *how, out._handle))
+        check(call(self._ref, other._ref, *how, out._ref))
         return out
 
     def __or__(self, other: "Map") -> "Map":
@@ -471,7 +471,7 @@ class Map(Held, MutableMapping):  # type: ignore[type-arg]
         room, needed = 64 + 20 * len(self), Number()
         while True:
             out = bytearray(room)
-            status = lib.pam_map_bytes(self._handle, *lent_bytes(out), needed)
+            status = lib.pam_map_bytes(self._ref, *lent_bytes(out), needed)
             if status != NO_ROOM:
                 check(status)
                 return bytes(memoryview(out)[: needed.value])
@@ -481,7 +481,7 @@ class Map(Held, MutableMapping):  # type: ignore[type-arg]
     def from_bytes(cls, data: Any) -> "Map":
         """The map of bytes that to_bytes wrote; ValueError for any others. O(n)."""
         out = cls._empty()
-        status = lib.pam_map_from_bytes(out._handle, *lent_bytes(data))
+        status = lib.pam_map_from_bytes(out._ref, *lent_bytes(data))
         if status == NOT_A_MAP:
             raise ValueError("not the bytes of a map")
         check(status)

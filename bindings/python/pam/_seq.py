@@ -5,7 +5,7 @@ from collections.abc import Iterator, MutableSequence
 from typing import Any, Optional, Tuple
 
 from ._arrays import LIMIT, Numbers, lent, number, zeros
-from ._library import BAD_CALL, NOT_THERE, Held, Number, SeqHandle, check, lib
+from ._library import BAD_CALL, NOT_THERE, Held, SeqHandle, Number, check, lib
 
 BLOCK = 1024
 _MISSING: Any = object()
@@ -28,9 +28,9 @@ class Seq(Held, MutableSequence):  # type: ignore[type-arg]
     def __init__(self, items: Numbers = (), /) -> None:
         """The sequence of some ints, or of an array: array.array('Q'), NumPy's uint64, a memoryview of these. O(n)."""
         if isinstance(items, Seq):
-            check(lib.pam_seq_share(items._handle, self._handle))
+            check(lib.pam_seq_share(items._ref, self._ref))
             return
-        status = lib.pam_seq_build(self._handle, *lent(items))
+        status = lib.pam_seq_build(self._ref, *lent(items))
         if status == BAD_CALL:
             raise ValueError("pam: it was built before")
         check(status)
@@ -59,22 +59,22 @@ class Seq(Held, MutableSequence):  # type: ignore[type-arg]
 
     def _taken(self, count: int) -> "Seq":
         out = self._empty()
-        check(lib.pam_seq_take(self._handle, count, out._handle))
+        check(lib.pam_seq_take(self._ref, count, out._ref))
         return out
 
     def _skipped(self, count: int) -> "Seq":
         out = self._empty()
-        check(lib.pam_seq_skip(self._handle, count, out._handle))
+        check(lib.pam_seq_skip(self._ref, count, out._ref))
         return out
 
     def _appended(self, other: "Seq") -> "Seq":
         out = self._empty()
-        check(lib.pam_seq_append(self._handle, other._handle, out._handle))
+        check(lib.pam_seq_append(self._ref, other._ref, out._ref))
         return out
 
     def _reversed(self) -> "Seq":
         out = self._empty()
-        check(lib.pam_seq_reverse(self._handle, out._handle))
+        check(lib.pam_seq_reverse(self._ref, out._ref))
         return out
 
     def __getitem__(self, index):
@@ -90,7 +90,7 @@ class Seq(Held, MutableSequence):  # type: ignore[type-arg]
                 return self._skipped(start)._taken(max(stop - start, 0))
             return type(self)(self.to_array()[index])
         item = Number()
-        status = lib.pam_seq_get(self._handle, self._place(index), item)
+        status = lib.pam_seq_get(self._ref, self._place(index), item)
         if status:
             self._check_place(status)
         return item.value
@@ -105,7 +105,7 @@ class Seq(Held, MutableSequence):  # type: ignore[type-arg]
         Seq([7, 8, 8, 8, 3, 4])
         """
         if not isinstance(index, slice):
-            self._check_place(lib.pam_seq_set(self._handle, self._place(index), number(item)))
+            self._check_place(lib.pam_seq_set(self._ref, self._place(index), number(item)))
             return
         items = item if isinstance(item, Seq) else type(self)(item)
         start, stop, step = index.indices(len(self))
@@ -156,7 +156,7 @@ class Seq(Held, MutableSequence):  # type: ignore[type-arg]
 
     def append(self, item: int) -> None:
         """Puts an item at the end. O(log n)."""
-        status = lib.pam_seq_push(self._handle, number(item))
+        status = lib.pam_seq_push(self._ref, number(item))
         if status:
             check(status)
 
@@ -172,7 +172,7 @@ class Seq(Held, MutableSequence):  # type: ignore[type-arg]
         if isinstance(items, Seq):
             self._take_over(self._appended(items))
         else:
-            check(lib.pam_seq_push_many(self._handle, *lent(items)))
+            check(lib.pam_seq_push_many(self._ref, *lent(items)))
 
     def __add__(self, other: "Seq") -> "Seq":
         """a + b: the items of both, in O(log n).
@@ -194,7 +194,7 @@ class Seq(Held, MutableSequence):  # type: ignore[type-arg]
 
     def _fold(self, start: Optional[int], stop: Optional[int]) -> Tuple[int, int]:
         total, greatest = Number(), Number()
-        check(lib.pam_seq_fold_range(self._handle, *self._run(start, stop), total, greatest))
+        check(lib.pam_seq_fold_range(self._ref, *self._run(start, stop), total, greatest))
         return total.value, greatest.value
 
     def sum(self, start: Optional[int] = None, stop: Optional[int] = None) -> int:
@@ -227,7 +227,7 @@ class Seq(Held, MutableSequence):  # type: ignore[type-arg]
         """
         place, count = self._run(start, stop)
         items, found = zeros(count), Number()
-        check(lib.pam_seq_fill(self._handle, place, *lent(items), found))
+        check(lib.pam_seq_fill(self._ref, place, *lent(items), found))
         return items
 
     def __iter__(self) -> Iterator[int]:

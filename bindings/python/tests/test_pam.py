@@ -296,6 +296,27 @@ class Lives(unittest.TestCase):
             thread.join()
         self.assertEqual(list(m), [5000 * t + k for t in range(4) for k in range(3000)])
 
+    def test_threads_that_replace_what_others_read(self):
+        m, s, stop, faults = pam.Map({1: 1}), pam.Seq([1]), [], []
+
+        def read():
+            while not stop:
+                try:
+                    m.sum(), s.sum(), len(m), list(m), list(s)
+                except Exception as fault:
+                    faults.append(fault)
+
+        threads = [threading.Thread(target=read) for _ in range(3)]
+        for thread in threads:
+            thread.start()
+        for key in range(3000):
+            m |= pam.Map({key: key})
+            s.insert(0, key)
+        stop.append(True)
+        for thread in threads:
+            thread.join()
+        self.assertEqual((len(m), len(s), faults), (3000, 3001, []))
+
 
 def load_tests(_loader, tests, _pattern):
     for name in ("pam", "pam._map", "pam._seq", "pam._intervals"):

@@ -50,14 +50,14 @@ impl Intervals {
         let (left, right) = interval.into_inner();
         assert!(left <= right, "an interval has its left end first");
         // SAFETY: an open handle.
-        done(unsafe { raw::pam_intervals_add(self.0.as_mut_ptr(), left, right) })
+        done(unsafe { raw::pam_intervals_add(self.0.as_ptr(), left, right) })
     }
 
     /// Removes an interval, and answers whether it was there. O(log n).
     pub fn remove(&mut self, interval: RangeInclusive<u64>) -> Result<bool, NoMemory> {
         let (left, right) = interval.into_inner();
         // SAFETY: an open handle.
-        match unsafe { raw::pam_intervals_del(self.0.as_mut_ptr(), left, right) } {
+        match unsafe { raw::pam_intervals_del(self.0.as_ptr(), left, right) } {
             raw::NOT_THERE => Ok(false),
             status => done(status).map(|()| true),
         }
@@ -96,16 +96,16 @@ impl Intervals {
         })
     }
 
-    fn listed(&self, call: impl Fn(*const raw::Raw, &mut [u64], &mut [u64], &mut u64) -> u8) -> Vec<RangeInclusive<u64>> {
+    fn listed(&self, call: impl Fn(*mut raw::Raw, &mut [u64], &mut [u64], &mut usize) -> u8) -> Vec<RangeInclusive<u64>> {
         let (mut lefts, mut rights, mut count) = (vec![0; ROOM], vec![0; ROOM], 0);
         loop {
             let status = call(self.0.as_ptr(), &mut lefts, &mut rights, &mut count);
             if status != raw::NO_ROOM {
                 assert_eq!(status, raw::OK, "no memory for a list of intervals");
-                return lefts.into_iter().zip(rights).take(count as usize).map(|(left, right)| left..=right).collect();
+                return lefts.into_iter().zip(rights).take(count).map(|(left, right)| left..=right).collect();
             }
-            lefts.resize(count as usize, 0);
-            rights.resize(count as usize, 0);
+            lefts.resize(count, 0);
+            rights.resize(count, 0);
         }
     }
 
@@ -115,7 +115,7 @@ impl Intervals {
         let (to, too) = (lefts.as_mut_ptr(), rights.as_mut_ptr());
         // SAFETY: an open handle, and slices by their lengths.
         raw::sure(unsafe { raw::pam_intervals_fill(self.0.as_ptr(), left, right, to, count, too, count, &mut filled) });
-        lefts.into_iter().zip(rights).take(filled as usize).collect()
+        lefts.into_iter().zip(rights).take(filled).collect()
     }
 
     /// The intervals by rising left ends, and of one left end by rising right ends.

@@ -109,7 +109,7 @@ impl Map {
     /// Sets a key to a value. O(log n).
     pub fn insert(&mut self, key: u64, val: u64) -> Result<(), NoMemory> {
         // SAFETY: an open handle.
-        done(unsafe { raw::pam_map_put(self.0.as_mut_ptr(), key, val) })
+        done(unsafe { raw::pam_map_put(self.0.as_ptr(), key, val) })
     }
 
     /// Sets keys to values, in order. O(m log(n + m)) for m of them.
@@ -119,13 +119,13 @@ impl Map {
     pub fn insert_many(&mut self, keys: &[u64], vals: &[u64]) -> Result<(), NoMemory> {
         assert_eq!(keys.len(), vals.len(), "as many values as keys");
         // SAFETY: an open handle, and slices by their lengths.
-        done(unsafe { raw::pam_map_put_many(self.0.as_mut_ptr(), keys.as_ptr(), keys.len(), vals.as_ptr(), vals.len()) })
+        done(unsafe { raw::pam_map_put_many(self.0.as_ptr(), keys.as_ptr(), keys.len(), vals.as_ptr(), vals.len()) })
     }
 
     /// Removes a key, and answers whether it was there. O(log n).
     pub fn remove(&mut self, key: u64) -> Result<bool, NoMemory> {
         // SAFETY: an open handle.
-        match unsafe { raw::pam_map_del(self.0.as_mut_ptr(), key) } {
+        match unsafe { raw::pam_map_del(self.0.as_ptr(), key) } {
             raw::NOT_THERE => Ok(false),
             status => done(status).map(|()| true),
         }
@@ -134,11 +134,11 @@ impl Map {
     /// Removes keys, which need not be there. O(m log(n + m)) for m of them.
     pub fn remove_many(&mut self, keys: &[u64]) -> Result<(), NoMemory> {
         // SAFETY: an open handle, and a slice by its length.
-        done(unsafe { raw::pam_map_del_many(self.0.as_mut_ptr(), keys.as_ptr(), keys.len()) })
+        done(unsafe { raw::pam_map_del_many(self.0.as_ptr(), keys.as_ptr(), keys.len()) })
     }
 
     /// An entry that a call writes.
-    fn entry(&self, call: impl FnOnce(*const raw::Raw, *mut u64, *mut u64) -> u8) -> Option<(u64, u64)> {
+    fn entry(&self, call: impl FnOnce(*mut raw::Raw, *mut u64, *mut u64) -> u8) -> Option<(u64, u64)> {
         let (mut key, mut val) = (0, 0);
         there(call(self.0.as_ptr(), &mut key, &mut val)).then_some((key, val))
     }
@@ -301,10 +301,10 @@ impl Map {
             let status = unsafe { raw::pam_map_bytes(self.0.as_ptr(), bytes.as_mut_ptr(), bytes.len(), &mut needed) };
             if status != raw::NO_ROOM {
                 assert_eq!(status, raw::OK, "no memory for the bytes of a map");
-                bytes.truncate(needed as usize);
+                bytes.truncate(needed);
                 return bytes;
             }
-            bytes.resize(needed as usize, 0);
+            bytes.resize(needed, 0);
         }
     }
 
@@ -387,7 +387,7 @@ impl Places for Map {
         let mut filled = 0;
         // SAFETY: an open handle, and slices by their lengths.
         sure(unsafe { raw::pam_map_fill(self.0.as_ptr(), from, keys.as_mut_ptr(), count, vals.as_mut_ptr(), count, &mut filled) });
-        keys.into_iter().zip(vals).take(filled as usize).collect()
+        keys.into_iter().zip(vals).take(filled).collect()
     }
 }
 

@@ -21,15 +21,15 @@ pub struct Raw {
 pub trait Kind {
     const NEW: unsafe extern "C" fn(*mut Raw) -> u8;
     const FREE: unsafe extern "C" fn(*mut Raw) -> u8;
-    const SHARE: unsafe extern "C" fn(*const Raw, *mut Raw) -> u8;
-    const LEN: unsafe extern "C" fn(*const Raw, *mut u64) -> u8;
+    const SHARE: unsafe extern "C" fn(*mut Raw, *mut Raw) -> u8;
+    const LEN: unsafe extern "C" fn(*mut Raw, *mut u64) -> u8;
 }
 
 pub struct MapKind;
 pub struct SeqKind;
 pub struct IntervalsKind;
 
-/// An open handle. The library may write to it even where it reads, hence the cell, which makes it not `Sync` too.
+/// An open handle. Calls that only read want it to themselves too, hence the cell, which makes it not `Sync`.
 pub struct Handle<K: Kind> {
     raw: UnsafeCell<Raw>,
     kind: std::marker::PhantomData<K>,
@@ -43,7 +43,7 @@ impl<K: Kind> Handle<K> {
     pub fn opened(call: impl FnOnce(*mut Raw) -> u8) -> Result<Self, u8> {
         let raw = UnsafeCell::new(Raw { at: ptr::null_mut(), state: 0 });
         let handle = Handle { raw, kind: std::marker::PhantomData };
-        match call(handle.as_mut_ptr()) {
+        match call(handle.as_ptr()) {
             OK => Ok(handle),
             status => Err(status),
         }
@@ -66,11 +66,8 @@ impl<K: Kind> Handle<K> {
         len
     }
 
-    pub fn as_ptr(&self) -> *const Raw {
-        self.raw.get()
-    }
-
-    pub fn as_mut_ptr(&self) -> *mut Raw {
+    /// The pointer for a call, which has the handle to itself while it lasts: a handle is not `Sync`, and no call calls back.
+    pub fn as_ptr(&self) -> *mut Raw {
         self.raw.get()
     }
 }
@@ -78,7 +75,7 @@ impl<K: Kind> Handle<K> {
 impl<K: Kind> Drop for Handle<K> {
     fn drop(&mut self) {
         // SAFETY: an open handle, or a closed one, which stays closed.
-        unsafe { K::FREE(self.as_mut_ptr()) };
+        unsafe { K::FREE(self.as_ptr()) };
     }
 }
 
@@ -118,16 +115,16 @@ macro_rules! kinds {
             $(
                 fn $new(out: *mut Raw) -> u8;
                 fn $free(handle: *mut Raw) -> u8;
-                fn $share(handle: *const Raw, out: *mut Raw) -> u8;
-                fn $len(handle: *const Raw, len: *mut u64) -> u8;
+                fn $share(handle: *mut Raw, out: *mut Raw) -> u8;
+                fn $len(handle: *mut Raw, len: *mut u64) -> u8;
             )*
         }
         $(
             impl Kind for $kind {
                 const NEW: unsafe extern "C" fn(*mut Raw) -> u8 = $new;
                 const FREE: unsafe extern "C" fn(*mut Raw) -> u8 = $free;
-                const SHARE: unsafe extern "C" fn(*const Raw, *mut Raw) -> u8 = $share;
-                const LEN: unsafe extern "C" fn(*const Raw, *mut u64) -> u8 = $len;
+                const SHARE: unsafe extern "C" fn(*mut Raw, *mut Raw) -> u8 = $share;
+                const LEN: unsafe extern "C" fn(*mut Raw, *mut u64) -> u8 = $len;
             }
         )*
     };
@@ -140,48 +137,48 @@ kinds! {
 }
 
 extern "C" {
-    pub fn pam_map_get(m: *const Raw, key: u64, val: *mut u64) -> u8;
+    pub fn pam_map_get(m: *mut Raw, key: u64, val: *mut u64) -> u8;
     pub fn pam_map_put(m: *mut Raw, key: u64, val: u64) -> u8;
     pub fn pam_map_del(m: *mut Raw, key: u64) -> u8;
-    pub fn pam_map_fold(m: *const Raw, sum: *mut u64, greatest: *mut u64) -> u8;
-    pub fn pam_map_fold_range(m: *const Raw, lo: u64, hi: u64, sum: *mut u64, greatest: *mut u64) -> u8;
-    pub fn pam_map_rank(m: *const Raw, key: u64, rank: *mut u64) -> u8;
-    pub fn pam_map_select(m: *const Raw, at: u64, key: *mut u64, val: *mut u64) -> u8;
-    pub fn pam_map_next(m: *const Raw, from: u64, key: *mut u64, val: *mut u64) -> u8;
-    pub fn pam_map_prev(m: *const Raw, from: u64, key: *mut u64, val: *mut u64) -> u8;
-    pub fn pam_map_first(m: *const Raw, key: *mut u64, val: *mut u64) -> u8;
-    pub fn pam_map_last(m: *const Raw, key: *mut u64, val: *mut u64) -> u8;
-    pub fn pam_map_union(a: *const Raw, b: *const Raw, how: u8, out: *mut Raw) -> u8;
-    pub fn pam_map_intersection(a: *const Raw, b: *const Raw, how: u8, out: *mut Raw) -> u8;
-    pub fn pam_map_difference(a: *const Raw, b: *const Raw, out: *mut Raw) -> u8;
-    pub fn pam_map_split(m: *const Raw, key: u64, below: *mut Raw, from: *mut Raw) -> u8;
-    pub fn pam_map_range(m: *const Raw, lo: u64, hi: u64, out: *mut Raw) -> u8;
-    pub fn pam_map_fill(m: *const Raw, from: u64, keys: *mut u64, keys_len: usize, vals: *mut u64, vals_len: usize, count: *mut u64) -> u8;
+    pub fn pam_map_fold(m: *mut Raw, sum: *mut u64, greatest: *mut u64) -> u8;
+    pub fn pam_map_fold_range(m: *mut Raw, lo: u64, hi: u64, sum: *mut u64, greatest: *mut u64) -> u8;
+    pub fn pam_map_rank(m: *mut Raw, key: u64, rank: *mut u64) -> u8;
+    pub fn pam_map_select(m: *mut Raw, at: u64, key: *mut u64, val: *mut u64) -> u8;
+    pub fn pam_map_next(m: *mut Raw, from: u64, key: *mut u64, val: *mut u64) -> u8;
+    pub fn pam_map_prev(m: *mut Raw, from: u64, key: *mut u64, val: *mut u64) -> u8;
+    pub fn pam_map_first(m: *mut Raw, key: *mut u64, val: *mut u64) -> u8;
+    pub fn pam_map_last(m: *mut Raw, key: *mut u64, val: *mut u64) -> u8;
+    pub fn pam_map_union(a: *mut Raw, b: *mut Raw, how: u8, out: *mut Raw) -> u8;
+    pub fn pam_map_intersection(a: *mut Raw, b: *mut Raw, how: u8, out: *mut Raw) -> u8;
+    pub fn pam_map_difference(a: *mut Raw, b: *mut Raw, out: *mut Raw) -> u8;
+    pub fn pam_map_split(m: *mut Raw, key: u64, below: *mut Raw, from: *mut Raw) -> u8;
+    pub fn pam_map_range(m: *mut Raw, lo: u64, hi: u64, out: *mut Raw) -> u8;
+    pub fn pam_map_fill(m: *mut Raw, from: u64, keys: *mut u64, keys_len: usize, vals: *mut u64, vals_len: usize, count: *mut usize) -> u8;
     pub fn pam_map_build(m: *mut Raw, keys: *const u64, keys_len: usize, vals: *const u64, vals_len: usize) -> u8;
     pub fn pam_map_put_many(m: *mut Raw, keys: *const u64, keys_len: usize, vals: *const u64, vals_len: usize) -> u8;
-    pub fn pam_map_get_many(m: *const Raw, keys: *const u64, keys_len: usize, vals: *mut u64, vals_len: usize, present: *mut u8, present_len: usize) -> u8;
+    pub fn pam_map_get_many(m: *mut Raw, keys: *const u64, keys_len: usize, vals: *mut u64, vals_len: usize, present: *mut u8, present_len: usize) -> u8;
     pub fn pam_map_del_many(m: *mut Raw, keys: *const u64, keys_len: usize) -> u8;
-    pub fn pam_map_bytes(m: *const Raw, out: *mut u8, room: usize, needed: *mut u64) -> u8;
+    pub fn pam_map_bytes(m: *mut Raw, out: *mut u8, room: usize, needed: *mut usize) -> u8;
     pub fn pam_map_from_bytes(m: *mut Raw, bytes: *const u8, len: usize) -> u8;
 
-    pub fn pam_seq_get(s: *const Raw, place: u64, item: *mut u64) -> u8;
+    pub fn pam_seq_get(s: *mut Raw, place: u64, item: *mut u64) -> u8;
     pub fn pam_seq_set(s: *mut Raw, place: u64, item: u64) -> u8;
     pub fn pam_seq_push(s: *mut Raw, item: u64) -> u8;
     pub fn pam_seq_push_many(s: *mut Raw, items: *const u64, len: usize) -> u8;
     pub fn pam_seq_build(s: *mut Raw, items: *const u64, len: usize) -> u8;
-    pub fn pam_seq_append(a: *const Raw, b: *const Raw, out: *mut Raw) -> u8;
-    pub fn pam_seq_take(s: *const Raw, count: u64, out: *mut Raw) -> u8;
-    pub fn pam_seq_skip(s: *const Raw, count: u64, out: *mut Raw) -> u8;
-    pub fn pam_seq_reverse(s: *const Raw, out: *mut Raw) -> u8;
-    pub fn pam_seq_fold(s: *const Raw, sum: *mut u64, greatest: *mut u64) -> u8;
-    pub fn pam_seq_fold_range(s: *const Raw, from: u64, count: u64, sum: *mut u64, greatest: *mut u64) -> u8;
-    pub fn pam_seq_fill(s: *const Raw, from: u64, items: *mut u64, len: usize, count: *mut u64) -> u8;
+    pub fn pam_seq_append(a: *mut Raw, b: *mut Raw, out: *mut Raw) -> u8;
+    pub fn pam_seq_take(s: *mut Raw, count: u64, out: *mut Raw) -> u8;
+    pub fn pam_seq_skip(s: *mut Raw, count: u64, out: *mut Raw) -> u8;
+    pub fn pam_seq_reverse(s: *mut Raw, out: *mut Raw) -> u8;
+    pub fn pam_seq_fold(s: *mut Raw, sum: *mut u64, greatest: *mut u64) -> u8;
+    pub fn pam_seq_fold_range(s: *mut Raw, from: u64, count: u64, sum: *mut u64, greatest: *mut u64) -> u8;
+    pub fn pam_seq_fill(s: *mut Raw, from: u64, items: *mut u64, len: usize, count: *mut usize) -> u8;
 
     pub fn pam_intervals_add(s: *mut Raw, left: u64, right: u64) -> u8;
     pub fn pam_intervals_del(s: *mut Raw, left: u64, right: u64) -> u8;
-    pub fn pam_intervals_any(s: *const Raw, point: u64) -> u8;
+    pub fn pam_intervals_any(s: *mut Raw, point: u64) -> u8;
     pub fn pam_intervals_build(s: *mut Raw, lefts: *const u64, lefts_len: usize, rights: *const u64, rights_len: usize) -> u8;
-    pub fn pam_intervals_stab(s: *const Raw, point: u64, lefts: *mut u64, lefts_len: usize, rights: *mut u64, rights_len: usize, count: *mut u64) -> u8;
-    pub fn pam_intervals_overlapping(s: *const Raw, lo: u64, hi: u64, lefts: *mut u64, lefts_len: usize, rights: *mut u64, rights_len: usize, count: *mut u64) -> u8;
-    pub fn pam_intervals_fill(s: *const Raw, from_left: u64, from_right: u64, lefts: *mut u64, lefts_len: usize, rights: *mut u64, rights_len: usize, count: *mut u64) -> u8;
+    pub fn pam_intervals_stab(s: *mut Raw, point: u64, lefts: *mut u64, lefts_len: usize, rights: *mut u64, rights_len: usize, count: *mut usize) -> u8;
+    pub fn pam_intervals_overlapping(s: *mut Raw, lo: u64, hi: u64, lefts: *mut u64, lefts_len: usize, rights: *mut u64, rights_len: usize, count: *mut usize) -> u8;
+    pub fn pam_intervals_fill(s: *mut Raw, from_left: u64, from_right: u64, lefts: *mut u64, lefts_len: usize, rights: *mut u64, rights_len: usize, count: *mut usize) -> u8;
 }

@@ -58,7 +58,7 @@ impl Seq {
     /// Sets the item at a place, and answers whether there is one. O(log n).
     pub fn set(&mut self, place: usize, item: u64) -> Result<bool, NoMemory> {
         // SAFETY: an open handle.
-        match unsafe { raw::pam_seq_set(self.0.as_mut_ptr(), place as u64, item) } {
+        match unsafe { raw::pam_seq_set(self.0.as_ptr(), place as u64, item) } {
             raw::NOT_THERE => Ok(false),
             status => done(status).map(|()| true),
         }
@@ -67,13 +67,13 @@ impl Seq {
     /// Puts an item at the end. O(log n).
     pub fn push(&mut self, item: u64) -> Result<(), NoMemory> {
         // SAFETY: an open handle.
-        done(unsafe { raw::pam_seq_push(self.0.as_mut_ptr(), item) })
+        done(unsafe { raw::pam_seq_push(self.0.as_ptr(), item) })
     }
 
     /// Puts a slice's items at the end. O(log n + m) for m of them.
     pub fn extend_from_slice(&mut self, items: &[u64]) -> Result<(), NoMemory> {
         // SAFETY: an open handle, and a slice by its length.
-        done(unsafe { raw::pam_seq_push_many(self.0.as_mut_ptr(), items.as_ptr(), items.len()) })
+        done(unsafe { raw::pam_seq_push_many(self.0.as_ptr(), items.as_ptr(), items.len()) })
     }
 
     /// The items of both sequences, this one's first. O(log n).
@@ -194,7 +194,7 @@ impl Places for Seq {
         let mut filled = 0;
         // SAFETY: an open handle, and a slice by its length.
         sure(unsafe { raw::pam_seq_fill(self.0.as_ptr(), place, items.as_mut_ptr(), count, &mut filled) });
-        items.truncate(filled as usize);
+        items.truncate(filled);
         items
     }
 }
