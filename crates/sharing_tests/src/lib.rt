@@ -1,4 +1,4 @@
-//! What calls of maps share, look at and ask for, counted by values, images and blocks of the callers: no contract sees it.
+//! What calls of maps share and look at, counted by values and images of the callers: no contract sees it.
 //!
 //! Tests: here. Wrong bodies: none; a test promises nothing.
 #![tactic(auto)]
@@ -11,5 +11,3 @@ mod ord_maps;
 mod put_with;
 #[cfg(test)]
 mod tracked;
-#[cfg(test)]
-mod walked;

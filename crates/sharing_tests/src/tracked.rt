@@ -1,4 +1,4 @@
-//! Numbers as values that count how often they are shared and asked for, and can be made to refuse to be shared.
+//! Numbers as values that count how often they are shared, and can be made to refuse to be shared.
 ghost use Rattle.std.specs.Prelude.{◌≡◌};
 
 use aug_monoid::{NoMemory, Share};
@@ -7,11 +7,10 @@ use std::marker::Model;
 use std::process::Abort;
 use std::sync::atomic::{AtomicBool, AtomicU64, Ordering};
 
-/// How often values were shared and asked for by their places, and whether they refuse to be shared.
+/// How often values were shared, and whether they refuse to be shared.
 #[derive(Drop)]
 pub(crate) struct Shares {
     count: AtomicU64,
-    asked: AtomicU64,
     are_refused: AtomicBool,
 }
 
@@ -19,7 +18,6 @@ impl Shares {
     pub(crate) fn new() -> Shares {
         Shares {
             count: AtomicU64::new(0),
-            asked: AtomicU64::new(0),
             are_refused: AtomicBool::new(false),
         }
     }
@@ -33,11 +31,6 @@ impl Shares {
     pub(crate) fn take(&self) -> u64 {
         self.count.swap(0, Ordering::SeqCst)
     }
-
-    /// How often values were asked for by their places, since it was asked last.
-    pub(crate) fn take_asked(&self) -> u64 {
-        self.asked.swap(0, Ordering::SeqCst)
-    }
 }
 
 /// A number that counts how often it is shared.
@@ -50,11 +43,6 @@ pub(crate) struct Tracked<'a> {
 impl<'a> Tracked<'a> {
     pub(crate) fn new(number: u64, shares: &'a Shares) -> Tracked<'a> {
         Tracked { number, shares }
-    }
-
-    /// It was asked for by its place.
-    pub(crate) fn note(&self) {
-        self.shares.asked.fetch_add(1, Ordering::SeqCst);
     }
 }
 
