@@ -2,7 +2,6 @@
 use Rattle.std.proofs.Common.{◌≡◌, [], ◌∷◌, ℕ, List, Option, Some, None, codes, map, replicate, refl}
 use Rattle.clap.proofs.OnLiterals.{clap_on_literals}
 use Rattle.clap.specs.Words.{Text}
-use Rattle.pam_top.specs.Answer.{AsksPlainly}
 use Rattle.pam_top.specs.CommandLine.{matches_on, pam_command}
 use Rattle.pam_top.specs.Settings.{settings_of}
 use Rattle.pam_top.specs.declared.settings.Settings.{Settings}
@@ -114,8 +113,3 @@ lawful : map settings_of lawful_words ≡
     []
 unfolding matches_on pam_command clap_on_literals settings_of
 lawful = refl
-
--- the tool map does not wait
-pub map_is_plain : AsksPlainly (codes "map" ∷ [])
-unfolding matches_on pam_command clap_on_literals settings_of
-map_is_plain = (λ is. cc, λ is. cc)

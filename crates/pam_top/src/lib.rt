@@ -2,8 +2,8 @@
 //!
 //! `pam` reads its words, the input and runs the tool, and appends the text to the sink: what it took, what it wrote and the
 //! status are an `Outcome` of the words and the bytes (`specs/Answer`), in which maps are sorted lists. `pam_plain` is the same
-//! without the tools that wait. Each status comes only with its cause, but out of memory, which is tied to none. `plain_map` is
-//! the plain program of one map, for tests.
+//! without the tools that wait, for words that `asks_plainly` answers `true` to. Each status comes only with its cause, but out of
+//! memory, which is tied to none. `plain_map` is the plain program of one map, for tests.
 //!
 //! Tests: `program_tests`. Wrong bodies: here, in `must-fail/` and `wrong-bodies/`.
 #![tactic(auto)]
@@ -22,7 +22,7 @@ mod top;
 mod words_fault;
 mod writing;
 
-pub use plain_top::pam_plain;
+pub use plain_top::{asks_plainly, pam_plain};
 pub use running::run_plain;
 pub use status::Status;
 pub use top::pam;

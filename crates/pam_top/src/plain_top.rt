@@ -1,5 +1,5 @@
 //! The whole program without the tools that wait.
-ghost use Rattle.std.specs.Prelude.{◌≡◌, true, List, ℕ, map};
+ghost use Rattle.std.specs.Prelude.{◌≡◌, ◌⊎◌, true, List, ℕ, IfOk, IsTrue, map};
 ghost use Rattle.std.specs.String.{string_bytes};
 ghost use Rattle.std.specs.Io.KnownBytes.{Appends, Consumes, IsAtEnd};
 ghost use Rattle.io_edge.specs.Edge.{faults_after};
@@ -8,14 +8,39 @@ ghost use Rattle.pam_top.specs.Answer.{AsksNotToRead, AsksPlainly, AsksToRead, O
 use crate::Status;
 use crate::asking::{Asked, asked_of};
 use crate::running::run_plain;
+use crate::settings::read_words;
 use crate::telling::{error_text, tell};
+use crate::words_fault::WordsFault;
+use aug_monoid::NoMemory;
 use fork_join::Gate;
 use io_edge::{Sink, Source};
 use std::alloc::Global;
 use std::marker::Sync;
 use std::thread::Threads;
+use tool_input::Tool;
 
-/// Runs `pam` with words that ask for neither serve nor gserve: the same call without the bound `Wait`, so that it returns.
+fn waits(tool: Tool) -> bool
+    ensures waiting { IsTrue result → (tool ≡ Tool.Serve) ⊎ (tool ≡ Tool.Gserve) }
+    ensures others { (tool ≡ Tool.Serve) ⊎ (tool ≡ Tool.Gserve) → IsTrue result }
+{
+    matches!(tool, Tool::Serve | Tool::Gserve)
+}
+
+/// Whether `pam_plain` takes these words: they ask for neither serve nor gserve, or are not lawful. O(n)
+/// for words of n bytes.
+pub fn asks_plainly(alloc: Global, words: &[String]) -> Result<bool, NoMemory>
+    ensures plain { IfOk result (λ is. IsTrue is → AsksPlainly (map string_bytes words.now)) }
+    ensures others { IfOk result (λ is. AsksPlainly (map string_bytes words.now) → IsTrue is) }
+{
+    match read_words(alloc, words) {
+        Ok(settings) => Ok(!waits(settings.tool)),
+        Err(WordsFault::Usage) => Ok(true),
+        Err(WordsFault::NoMemory) => Err(NoMemory),
+    }
+}
+
+/// Runs `pam` with words that ask for neither serve nor gserve, as `asks_plainly` says: the same call without the bound `Wait`, so
+/// that it returns.
 pub fn pam_plain<R: Threads + Sync, S: Source, K: Sink, G: Gate>(
     rt: &R,
     alloc: Global,
