@@ -70,6 +70,7 @@ impl<F: Fold, S: BlockSize> SeqOver<F, S> {
 impl<F: Fold, S: BlockSize> Share for SeqOver<F, S> {
     ghost never_refuses = { ⊥ };
 
+    /// The same sequence: a pointer is copied and one owner more is counted. O(1).
     fn share(&self, alloc: Global) -> Result<SeqOver<F, S>, NoMemory> {
         let tree = self.tree.share(alloc)?;
         Ok(SeqOver { tree })
