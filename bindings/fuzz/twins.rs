@@ -96,7 +96,7 @@ fn joined(a: &(Map, Twin), b: &(Map, Twin), r: &mut Random) -> Result<(Map, Twin
             let rest = a.1.iter().filter(|(key, _)| !b.1.contains_key(key)).map(|(&key, &val)| (key, val));
             (a.0.difference(&b.0)?, rest.collect())
         }
-        _ => (Map::from_bytes(&a.0.to_bytes()).expect("the bytes of a map"), a.1.clone()),
+        _ => (Map::from_bytes(&a.0.to_bytes()?).expect("the bytes of a map"), a.1.clone()),
     })
 }
 
@@ -260,11 +260,11 @@ fn intervals_are_as_a_set() -> Result<(), NoMemory> {
             }
             6 => {
                 let stabbed: Vec<_> = twin.iter().filter(|i| i.0 <= a && a <= i.1).map(closed).collect();
-                assert_eq!((set.covers(a), set.stab(a)), (!stabbed.is_empty(), stabbed));
+                assert_eq!((set.covers(a), set.stab(a)?), (!stabbed.is_empty(), stabbed));
             }
             7 => {
                 let wanted: Vec<_> = twin.iter().filter(|i| i.0 <= right && left <= i.1).map(closed).collect();
-                assert_eq!(set.overlapping(left..=right), wanted);
+                assert_eq!(set.overlapping(left..=right)?, wanted);
             }
             8 => assert_eq!(set.contains(left..=right), twin.contains(&(left, right))),
             _ if r.below(20) == 0 => {
@@ -298,11 +298,12 @@ fn a_share_is_used_by_another_thread() -> Result<(), NoMemory> {
 }
 
 #[test]
-fn bytes_that_are_no_map_are_refused() {
+fn bytes_that_are_no_map_are_refused() -> Result<(), NoMemory> {
     let map: Map = (0..100).map(|key| (key * key, key)).collect();
-    let bytes = map.to_bytes();
+    let bytes = map.to_bytes()?;
     for end in 0..bytes.len() {
         assert_eq!(Map::from_bytes(&bytes[..end]), Err(FromBytesError::NotAMap));
     }
     assert_eq!(Map::from_bytes(&bytes), Ok(map));
+    Ok(())
 }

@@ -15,7 +15,7 @@ const CHUNK: usize = 256;
 /// let mut rooms = Intervals::new()?;
 /// rooms.insert(9..=12)?;
 /// rooms.insert(11..=14)?;
-/// assert_eq!(rooms.stab(10), [9..=12]);
+/// assert_eq!(rooms.stab(10)?, [9..=12]);
 /// assert!(!rooms.covers(15));
 /// # Ok::<(), pam::NoMemory>(())
 /// ```
@@ -76,7 +76,7 @@ impl Intervals {
     }
 
     /// The intervals that have a point in them, in order. O(log n + m log n) for m of them.
-    pub fn stab(&self, point: u64) -> Vec<RangeInclusive<u64>> {
+    pub fn stab(&self, point: u64) -> Result<Vec<RangeInclusive<u64>>, NoMemory> {
         self.listed(|s, lefts, rights, count| {
             // SAFETY: an open handle, and slices by their lengths.
             unsafe { raw::pam_intervals_stab(s, point, lefts.as_mut_ptr(), lefts.len(), rights.as_mut_ptr(), rights.len(), count) }
@@ -85,9 +85,9 @@ impl Intervals {
 
     /// The intervals that have a number of a range in them, in order; none where the range is empty. O(log n + m log n) for m of
     /// them.
-    pub fn overlapping(&self, range: RangeInclusive<u64>) -> Vec<RangeInclusive<u64>> {
+    pub fn overlapping(&self, range: RangeInclusive<u64>) -> Result<Vec<RangeInclusive<u64>>, NoMemory> {
         if range.is_empty() {
-            return Vec::new();
+            return Ok(Vec::new());
         }
         let (lo, hi) = range.into_inner();
         self.listed(|s, lefts, rights, count| {
@@ -96,13 +96,13 @@ impl Intervals {
         })
     }
 
-    fn listed(&self, call: impl Fn(*mut raw::Raw, &mut [u64], &mut [u64], &mut usize) -> u8) -> Vec<RangeInclusive<u64>> {
+    fn listed(&self, call: impl Fn(*mut raw::Raw, &mut [u64], &mut [u64], &mut usize) -> u8) -> Result<Vec<RangeInclusive<u64>>, NoMemory> {
         let (mut lefts, mut rights, mut count) = (vec![0; ROOM], vec![0; ROOM], 0);
         loop {
             let status = call(self.0.as_ptr(), &mut lefts, &mut rights, &mut count);
             if status != raw::NO_ROOM {
-                assert_eq!(status, raw::OK, "no memory for a list of intervals");
-                return lefts.into_iter().zip(rights).take(count).map(|(left, right)| left..=right).collect();
+                done(status)?;
+                return Ok(lefts.into_iter().zip(rights).take(count).map(|(left, right)| left..=right).collect());
             }
             lefts.resize(count, 0);
             rights.resize(count, 0);

@@ -293,16 +293,15 @@ impl Map {
     }
 
     /// The map as bytes; equal maps have equal bytes. O(n).
-    pub fn to_bytes(&self) -> Vec<u8> {
+    pub fn to_bytes(&self) -> Result<Vec<u8>, NoMemory> {
         let mut bytes = vec![0; 64 + 20 * self.len()];
         let mut needed = 0;
         loop {
             // SAFETY: an open handle, and a slice by its length.
             let status = unsafe { raw::pam_map_bytes(self.0.as_ptr(), bytes.as_mut_ptr(), bytes.len(), &mut needed) };
             if status != raw::NO_ROOM {
-                assert_eq!(status, raw::OK, "no memory for the bytes of a map");
                 bytes.truncate(needed);
-                return bytes;
+                return done(status).map(|()| bytes);
             }
             bytes.resize(needed, 0);
         }
@@ -313,8 +312,9 @@ impl Map {
     /// ```
     /// # use pam::{FromBytesError, Map};
     /// let map = Map::from([(1, 10)]);
-    /// assert_eq!(Map::from_bytes(&map.to_bytes()), Ok(map));
+    /// assert_eq!(Map::from_bytes(&map.to_bytes()?), Ok(map));
     /// assert_eq!(Map::from_bytes(b"none"), Err(FromBytesError::NotAMap));
+    /// # Ok::<(), pam::NoMemory>(())
     /// ```
     pub fn from_bytes(bytes: &[u8]) -> Result<Map, FromBytesError> {
         // SAFETY: a closed handle, and a slice by its length.
