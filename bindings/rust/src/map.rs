@@ -205,7 +205,7 @@ impl Map {
         fold
     }
 
-    /// The entries in the order of keys. O(log n) for each end, and O(1) for each entry.
+    /// The entries in the order of keys, from either end. O(log n) for each.
     pub fn iter(&self) -> Iter<'_> {
         Iter { map: self, walk: Walk::over(0, self.0.len()) }
     }
