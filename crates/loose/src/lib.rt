@@ -2,6 +2,8 @@
 //!
 //! C can be given no type that leads to a vector or a box. So a handle for C has a pointer to bytes, and says in its contract
 //! what stands there: `slot_owns` of `specs/Slots.antt`. `specs/Statuses.antt` says what the statuses of its calls mean.
+//!
+//! Tests: `border_tests`, by the handles. Wrong bodies: none here; `pam_c` states its clauses.
 #![tactic(auto)]
 
 ghost use Rattle.std.specs.Prelude.{◌≡◌};
