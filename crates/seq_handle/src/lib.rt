@@ -2,9 +2,12 @@
 //!
 //! Contracts see a handle as its `items`: none where it is closed, and the list of the sequence's items where it is open. Every
 //! call answers a status of `status`, and changes nothing but at status 0.
+//!
+//! Tests: `border_tests`. Wrong bodies: none here; `pam_c` states these clauses again.
 #![tactic(auto)]
 
 mod asking;
+mod cross;
 mod handle;
 mod inner;
 mod single;
@@ -14,6 +17,7 @@ mod sums;
 mod wholes;
 
 pub use asking::{fill, fold, fold_range, len};
+pub use cross::kept_crosses;
 pub use handle::{Handle, closed, free, new};
 pub use single::{get, push, push_many, set};
 pub use wholes::{append, build, reverse, share, skip, take};
