@@ -1,0 +1,4 @@
+pub mod Adler
+pub mod Format
+pub mod Faults
+pub mod Reads
