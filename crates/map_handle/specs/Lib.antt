@@ -1,0 +1,5 @@
+pub mod Arrays
+pub mod Bytes
+pub mod Folds
+pub mod Hows
+pub mod Keys
