@@ -51,7 +51,7 @@ enum {
     PAM_NO_ROOM = 2,   /* the arrays are too short; how long they must be is written */
     PAM_NOT_A_MAP = 3, /* the bytes are no map's */
     PAM_BAD_CALL = 4,  /* a null or closed handle where an open one is wanted, an open one where a result goes, a null array or
-                          result, arrays of one call whose lengths differ, an unknown `how`, or left > right */
+                          result, arrays of one call whose lengths differ, an unknown `how`, left > right, or lo > hi */
     PAM_NO_MEMORY = 7
 };
 
@@ -108,7 +108,8 @@ uint8_t pam_map_split(pam_map *map, uint64_t key, pam_map *below, pam_map *from)
 /* The entries with keys from `lo` to `hi`, both included, in O(log n). 0, 4, 7 */
 uint8_t pam_map_range(pam_map *map, uint64_t lo, uint64_t hi, pam_map *out);
 
-/* Writes the first entries with keys at least `from_key`, as many as there are and fit, and how many these are. */
+/* Writes the first entries with keys at least `from_key`, as many as there are and fit, and how many these are, in O(log n) for
+ * each. 0, 4 */
 uint8_t pam_map_fill(pam_map *map, uint64_t from_key, uint64_t *keys, size_t keys_len, uint64_t *vals, size_t vals_len, size_t *count);
 /* Opens a closed handle with the map of n pairs, in O(n log n); a later pair of a key wins. 0, 4, 7 */
 uint8_t pam_map_build(pam_map *map, const uint64_t *keys, size_t keys_len, const uint64_t *vals, size_t vals_len);
@@ -119,13 +120,14 @@ uint8_t pam_map_get_many(pam_map *map, const uint64_t *keys, size_t keys_len, ui
 /* Removes m keys, which the map need not have, in O(m log(m + n)). 0, 4, 7 */
 uint8_t pam_map_del_many(pam_map *map, const uint64_t *keys, size_t keys_len);
 
-/* Writes the map as bytes, and how many they are. 0, 2, 4, 7 */
+/* Writes the map as bytes, and how many they are, in O(n). 0, 2, 4, 7 */
 uint8_t pam_map_bytes(pam_map *map, uint8_t *out, size_t room, size_t *needed);
-/* Opens a closed handle with the map that bytes are. 0, 3, 4, 7 */
+/* Opens a closed handle with the map that bytes are, in O(n log n). 0, 3, 4, 7 */
 uint8_t pam_map_from_bytes(pam_map *map, const uint8_t *bytes, size_t len);
 
 /* ---- Sequences of uint64_t, with the sum and the greatest of the items. n is the number of items. ---- */
 
+/* As those of maps. */
 uint8_t pam_seq_new(pam_seq *seq);
 uint8_t pam_seq_free(pam_seq *seq);
 uint8_t pam_seq_share(pam_seq *seq, pam_seq *out);
@@ -134,10 +136,10 @@ uint8_t pam_seq_len(pam_seq *seq, uint64_t *len);
 uint8_t pam_seq_get(pam_seq *seq, uint64_t place, uint64_t *item);
 /* Changes the item at a place, in O(log n). 0, 1, 4, 7 */
 uint8_t pam_seq_set(pam_seq *seq, uint64_t place, uint64_t item);
-/* Appends an item, or items in order. 0, 4, 7 */
+/* Appends an item, in O(log n), or m items in order, in O(log n + m). 0, 4, 7 */
 uint8_t pam_seq_push(pam_seq *seq, uint64_t item);
 uint8_t pam_seq_push_many(pam_seq *seq, const uint64_t *items, size_t items_len);
-/* Opens a closed handle with the sequence of the items. 0, 4, 7 */
+/* Opens a closed handle with the sequence of the items, in O(n). 0, 4, 7 */
 uint8_t pam_seq_build(pam_seq *seq, const uint64_t *items, size_t items_len);
 /* The items of `a` and then those of `b`, in O(log n). `a` and `b` may be one handle. 0, 4, 7 */
 uint8_t pam_seq_append(pam_seq *a, pam_seq *b, pam_seq *out);
@@ -150,11 +152,12 @@ uint8_t pam_seq_reverse(pam_seq *seq, pam_seq *out);
  * where there are none. 0, 4 */
 uint8_t pam_seq_fold(pam_seq *seq, uint64_t *sum, uint64_t *greatest);
 uint8_t pam_seq_fold_range(pam_seq *seq, uint64_t from, uint64_t count, uint64_t *sum, uint64_t *greatest);
-/* Writes the items from a place on, as many as there are and fit, and how many these are. */
+/* Writes the items from a place on, as many as there are and fit, and how many these are, in O(log n) and O(1) for each. 0, 4 */
 uint8_t pam_seq_fill(pam_seq *seq, uint64_t from_place, uint64_t *items, size_t items_len, size_t *count);
 
 /* ---- Sets of closed intervals of uint64_t. n is the number of intervals, k that of those written. ---- */
 
+/* As those of maps. */
 uint8_t pam_intervals_new(pam_intervals *set);
 uint8_t pam_intervals_free(pam_intervals *set);
 uint8_t pam_intervals_share(pam_intervals *set, pam_intervals *out);
@@ -165,13 +168,14 @@ uint8_t pam_intervals_add(pam_intervals *set, uint64_t left, uint64_t right);
 uint8_t pam_intervals_del(pam_intervals *set, uint64_t left, uint64_t right);
 /* Whether an interval contains the point, in O(log n): 0 where one does, 1 where none does. 0, 1, 4 */
 uint8_t pam_intervals_any(pam_intervals *set, uint64_t point);
-/* Opens a closed handle with the set of the intervals; a bad call where one has left > right. 0, 4, 7 */
+/* Opens a closed handle with the set of the intervals, in O(n log n); a bad call where one has left > right. 0, 4, 7 */
 uint8_t pam_intervals_build(pam_intervals *set, const uint64_t *lefts, size_t lefts_len, const uint64_t *rights, size_t rights_len);
-/* The intervals that contain a point, and those that have a point of lo to hi, in order, and how many they are. 0, 2, 4, 7 */
+/* The intervals that contain a point, and those that have a point of lo to hi, in order, and how many they are, in
+ * O(log n + k log n); `overlapping` is a bad call where lo > hi. 0, 2, 4, 7 */
 uint8_t pam_intervals_stab(pam_intervals *set, uint64_t point, uint64_t *lefts, size_t lefts_len, uint64_t *rights, size_t rights_len, size_t *count);
 uint8_t pam_intervals_overlapping(pam_intervals *set, uint64_t lo, uint64_t hi, uint64_t *lefts, size_t lefts_len, uint64_t *rights, size_t rights_len, size_t *count);
 /* Writes the first intervals that are at least (from_left, from_right), by left and then by right, as many as there are and fit,
- * and how many these are. */
+ * and how many these are, in O(log n + k). 0, 4, 7 */
 uint8_t pam_intervals_fill(pam_intervals *set, uint64_t from_left, uint64_t from_right, uint64_t *lefts, size_t lefts_len, uint64_t *rights, size_t rights_len, size_t *count);
 
 #ifdef __cplusplus
