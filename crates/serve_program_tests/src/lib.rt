@@ -18,4 +18,6 @@ mod runs;
 #[cfg(test)]
 mod turns;
 #[cfg(test)]
+mod verdicts;
+#[cfg(test)]
 mod worked;

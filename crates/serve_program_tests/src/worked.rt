@@ -12,7 +12,7 @@ use std::test::Fail;
 use std::thread::Threads;
 
 /// An input, and its lawful texts.
-type Row = (&'static [u8], &'static [&'static [u8]]);
+pub(crate) type Row = (&'static [u8], &'static [&'static [u8]]);
 
 /// Inputs of serve without a bad record.
 const LAWFUL: &[Row] = &[
@@ -97,7 +97,7 @@ const FAULTS: &[Row] = &[
 ];
 
 /// Inputs of gserve without a bad record.
-const LAWFUL_GRAPHS: &[Row] = &[
+pub(crate) const LAWFUL_GRAPHS: &[Row] = &[
     (b"", &[b"final,0,0\n"]),
     // the reads of a round see the batches of the round before
     (
