@@ -94,17 +94,28 @@ static void get_many(void)
         checksum += more[i] * present[i];
 }
 
-static void sums(void)
+/* Sums of so many ranges, each of a part of all keys. */
+static void sums_of(uint64_t count, uint64_t wide)
 {
     pam_map m = built(0, size);
-    uint64_t wide = UINT64_MAX / size * 100, sum, greatest;
+    uint64_t sum, greatest;
     start();
-    for (uint64_t i = 0; i < 100000; i++) {
+    for (uint64_t i = 0; i < count; i++) {
         uint64_t lo = keys[i % size], hi = lo > UINT64_MAX - wide ? UINT64_MAX : lo + wide;
         must(pam_map_fold_range(&m, lo, hi, &sum, &greatest));
         checksum += sum;
     }
     stop();
+}
+
+static void sums(void)
+{
+    sums_of(100000, UINT64_MAX / size * 100);
+}
+
+static void wide_sums(void)
+{
+    sums_of(100, UINT64_MAX / 2);
 }
 
 static void unite(void)
@@ -170,7 +181,7 @@ int main(int count, char **words)
         const char *name;
         void (*call)(void);
     } operations[] = {{"put", put}, {"get", get}, {"build", build}, {"put_many", put_many},
-                      {"get_many", get_many}, {"sums", sums}, {"union", unite}, {"walk", walk}};
+                      {"get_many", get_many}, {"sums", sums}, {"wide_sums", wide_sums}, {"union", unite}, {"walk", walk}};
     for (size_t i = 0; i < sizeof operations / sizeof *operations; i++)
         if (!strcmp(words[1], operations[i].name))
             operations[i].call();

@@ -32,9 +32,10 @@ def put(m, keys, vals):
     return m
 
 
-def ranges(keys):
-    wide = (WORD - 1) // len(keys) * 100
-    return [(lo, min(lo + wide, WORD - 1)) for lo in (keys[i % len(keys)] for i in range(100000))]
+def ranges(operation, keys):
+    """The ranges that are summed: many short ones, or few wide ones."""
+    count, wide = (100, (WORD - 1) // 2) if operation == "wide_sums" else (100000, (WORD - 1) // len(keys) * 100)
+    return [(lo, min(lo + wide, WORD - 1)) for lo in (keys[i % len(keys)] for i in range(count))]
 
 
 def by_pam(operation, keys, vals):
@@ -57,8 +58,8 @@ def by_pam(operation, keys, vals):
         return sum(timed(lambda: [m[key] for key in keys]))
     if operation == "get_many":
         return sum(timed(lambda: m.get_many(keys))[0])
-    if operation == "sums":
-        asked = ranges(keys)
+    if operation in ("sums", "wide_sums"):
+        asked = ranges(operation, keys)
         return sum(timed(lambda: [m.sum(lo, hi + 1) for lo, hi in asked]))
     return timed(lambda: sum(key ^ val for key, val in m.items()))
 
@@ -83,8 +84,8 @@ def by_sorted(operation, keys, vals):
         return sum(timed(lambda: [m[key] for key in keys]))
     if operation == "get_many":
         return sum(timed(lambda: array("Q", map(m.__getitem__, keys))))
-    if operation == "sums":
-        asked = ranges(keys)
+    if operation in ("sums", "wide_sums"):
+        asked = ranges(operation, keys)
         return sum(timed(lambda: [sum(map(m.__getitem__, m.irange(lo, hi))) for lo, hi in asked]))
     return timed(lambda: sum(key ^ val for key, val in m.items()))
 

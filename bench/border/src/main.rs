@@ -29,9 +29,10 @@ fn total(numbers: impl Iterator<Item = u64>) -> u64 {
     numbers.fold(0, u64::wrapping_add)
 }
 
-fn bounds(keys: &[u64]) -> impl Iterator<Item = (u64, u64)> + '_ {
-    let wide = u64::MAX / keys.len() as u64 * 100;
-    (0..100_000).map(move |i| keys[i % keys.len()]).map(move |lo| (lo, lo.saturating_add(wide)))
+/// The ranges that are summed: many short ones, or few wide ones.
+fn bounds<'a>(operation: &str, keys: &'a [u64]) -> impl Iterator<Item = (u64, u64)> + 'a {
+    let (count, wide) = if operation == "wide_sums" { (100, u64::MAX / 2) } else { (100_000, u64::MAX / keys.len() as u64 * 100) };
+    (0..count).map(move |i| keys[i % keys.len()]).map(move |lo| (lo, lo.saturating_add(wide)))
 }
 
 fn by_pam(operation: &str, keys: &[u64], vals: &[u64]) -> Result<u64, pam::NoMemory> {
@@ -61,9 +62,9 @@ fn by_pam(operation: &str, keys: &[u64], vals: &[u64]) -> Result<u64, pam::NoMem
             let map = all()?;
             total(timed(|| map.get_many(keys)).into_iter().flatten())
         }
-        "sums" => {
+        "sums" | "wide_sums" => {
             let map = all()?;
-            timed(|| total(bounds(keys).map(|(lo, hi)| map.fold_range(lo..=hi).sum)))
+            timed(|| total(bounds(operation, keys).map(|(lo, hi)| map.fold_range(lo..=hi).sum)))
         }
         "union" => {
             let (a, b) = (built(0, half)?, built(half, keys.len())?);
@@ -105,9 +106,9 @@ fn by_std(operation: &str, keys: &[u64], vals: &[u64]) -> u64 {
             let map = all();
             total(timed(|| keys.iter().map(|key| map.get(key).copied()).collect::<Vec<_>>()).into_iter().flatten())
         }
-        "sums" => {
+        "sums" | "wide_sums" => {
             let map = all();
-            timed(|| total(bounds(keys).map(|(lo, hi)| total(map.range(lo..=hi).map(|(_, &val)| val)))))
+            timed(|| total(bounds(operation, keys).map(|(lo, hi)| total(map.range(lo..=hi).map(|(_, &val)| val)))))
         }
         "union" => {
             // What pam's union does: both maps stay.
