@@ -74,6 +74,29 @@ fn forks<R: Threads + Wait + Abort + Sync + Files + AllocGlobal>(
     seen
 }
 
+/// How often a run that is to fork is watched: a busy machine may not show the threads of one.
+const RUNS: u64 = 100;
+
+/// How often a run that is not to fork is watched.
+const FEW_RUNS: u64 = 3;
+
+/// Whether one of many runs is seen to fork where it is wanted, or one of few where it is not.
+fn is_seen_to_fork<R: Threads + Wait + Abort + Sync + Files + AllocGlobal>(
+    rt: &R,
+    alloc: Global,
+    asked: Asked,
+    input: &[u8],
+    wanted: bool,
+) -> bool {
+    let runs = if wanted { RUNS } else { FEW_RUNS };
+    for _ in 0..runs {
+        if forks(rt, alloc, asked, input) {
+            return true;
+        }
+    }
+    false
+}
+
 /// Workers and a grain, and whether batches fork with them.
 const ROWS: [(&str, &str, bool); 3] = [
     ("1", "1", false),
@@ -94,7 +117,7 @@ fn assert_settings<R: Threads + Wait + Abort + Sync + Files + AllocGlobal>(
             workers,
             grain,
         };
-        let found = forks(rt, alloc, asked, input);
+        let found = is_seen_to_fork(rt, alloc, asked, input, wanted);
         assert_eq!(rt; found, wanted, "{tool} with {workers} and {grain}");
     }
 }
@@ -127,7 +150,9 @@ fn a_long_list_is_sorted_on_all_processors_by_one_worker(rt: HostRuntime) {
         workers: "1",
         grain: "1",
     };
-    assert_eq!(rt; forks(&rt, rt.alloc(), asked, &pairs), has_processors(&rt));
+    let wanted = has_processors(&rt);
+    let found = is_seen_to_fork(&rt, rt.alloc(), asked, &pairs, wanted);
+    assert_eq!(rt; found, wanted);
 }
 
 #[test]

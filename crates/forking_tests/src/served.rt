@@ -22,6 +22,9 @@ const OPS: u64 = 1000;
 /// How often a state is changed while it is watched.
 const TURNS: u64 = 40;
 
+/// How often it is watched where it is to fork.
+const RUNS: u64 = 50;
+
 /// A batch of puts, whose keys are all over those of the other batches.
 fn puts<R: Abort>(rt: &R, alloc: Global, batch: u64) -> Batch<Op> {
     let mut ops = Vec::new(alloc);
@@ -105,6 +108,22 @@ fn forks<R: Threads + Abort + Sync + Files + AllocGlobal, S: SyncState>(
     seen
 }
 
+/// Whether one of many such runs is seen to fork: a busy machine may not show the threads of one.
+fn one_forks<R: Threads + Abort + Sync + Files + AllocGlobal, S: SyncState>(
+    rt: &R,
+    alloc: Global,
+    state: &S,
+    cut: Cut,
+    batch: &Batch<S::Op>,
+) -> bool {
+    for _ in 0..RUNS {
+        if forks(rt, alloc, state, cut, batch) {
+            return true;
+        }
+    }
+    false
+}
+
 /// Whether it is on one worker, on two from too great a size on, and on two.
 fn forks_by_cuts<R: Threads + Abort + Sync + Files + AllocGlobal, S: SyncState>(
     rt: &R,
@@ -115,7 +134,7 @@ fn forks_by_cuts<R: Threads + Abort + Sync + Files + AllocGlobal, S: SyncState>(
     [
         forks(rt, alloc, state, Cut::new(1, 1), batch),
         forks(rt, alloc, state, Cut::new(2, 4294967296), batch),
-        forks(rt, alloc, state, Cut::new(2, 1), batch),
+        one_forks(rt, alloc, state, Cut::new(2, 1), batch),
     ]
 }
 
