@@ -1,5 +1,5 @@
 -- How two values are combined, by its word.
-use Rattle.std.specs.Prelude.{ℕ, List, codes, Result, Ok, Option, Some, None, if◌then◌else◌}
+use Rattle.std.specs.Prelude.{ℕ, ◌+◌, ◌-◌, ◌^◌, List, codes, min, max, Result, Ok, Option, Some, None, if◌then◌else◌}
 use Rattle.std.specs.Str.{bytes_eq}
 use Rattle.map_records.specs.declared.how.How.{How}
 use Rattle.map_records.specs.declared.how.How.TheVariants as how
@@ -30,3 +30,10 @@ three_registers_how r = with_fields 5 r (do
   c ← register_in r 3
   h ← how_in r 4
   Ok (a, b, c, h))
+
+-- the value at a key of two maps, from that of the first and that of the second
+abbrev pub resolved_by : How → ℕ → ℕ → ℕ
+resolved_by how.First a b = a
+resolved_by how.Second a b = b
+resolved_by how.Sum a b = min (a + b) (2 ^ 64 - 1)
+resolved_by how.Max a b = max a b

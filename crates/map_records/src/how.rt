@@ -1,12 +1,14 @@
 //! How two values are combined, and the fields of a record that tell it.
 ghost use Rattle.std.specs.Prelude.{◌≡◌};
 ghost use Rattle.csv.specs.Records.{fields_of};
-ghost use Rattle.map_records.specs.How.{how_in, how_named, three_registers_how};
+ghost use Rattle.map_records.specs.How.{how_in, how_named, resolved_by, three_registers_how};
 
 use crate::shapes::register_at;
+use aug_monoid::{NoMemory, Resolve};
 use csv::ByteRecord;
 use script::Code;
 use script::fields::field_at;
+use std::alloc::Global;
 
 /// How the value of `a` and the value of `b` are combined at a key that both have.
 #[derive(Clone, Copy, Debug, PartialEq, Eq)]
@@ -19,6 +21,19 @@ pub enum How {
     Sum,
     /// The greater one.
     Max,
+}
+
+impl Resolve<u64> for How {
+    ghost resolved = { resolved_by };
+
+    fn resolve(&self, _alloc: Global, a: &u64, b: &u64) -> Result<u64, NoMemory> {
+        Ok(match self {
+            How::First => *a,
+            How::Second => *b,
+            How::Sum => a.saturating_add(*b),
+            How::Max => *a.max(b),
+        })
+    }
 }
 
 #[tactic(auto, unfolding(crate::specs::How::how_named))]

@@ -1,5 +1,5 @@
 -- What the commands of the tool map do to the registers, and what they reply.
-use Rattle.std.specs.Prelude.{◌≡◌, [], ◌∷◌, ◌++◌, ℕ, List, Option, Some, None, Result, MatchResult, OnErr, OnOk, length, codes, if◌then◌else◌}
+use Rattle.std.specs.Prelude.{◌≡◌, ◌<◌, [], ◌∷◌, ◌++◌, ℕ, List, Option, Some, None, Result, MatchResult, OnErr, OnOk, length, codes, if◌then◌else◌}
 use Rattle.std.specs.Ordering.{nat_cmp}
 use Rattle.map_model.specs.Contents.{Contents}
 use Rattle.map_model.specs.Entries.{above, below, drop_key, lookup, set}
@@ -8,10 +8,13 @@ use Rattle.map_model.specs.Parts.{next, prev, rank, select, slice}
 use Rattle.map_model.specs.SetOperations.{difference, intersect, union}
 use Rattle.aug_monoid.specs.declared.totals.Totals.{Totals}
 use Rattle.script.specs.Lines.{counted, line_of}
+use Rattle.map_records.specs.How.{resolved_by}
 use Rattle.map_records.specs.declared.commands.MapCommand.{MapCommand}
 use Rattle.map_records.specs.declared.commands.MapCommand.TheVariants as command
 use Rattle.map_tool.specs.Registers.{Registers, maps_of, register, with_register}
-use Rattle.map_tool.specs.Values.{entries_of, entry_numbers, overlaps, range_totals, resolved_by, totals_of, values_from, values_within}
+use Rattle.map_tool.specs.declared.effect.Effect.{Effect as Made}
+use Rattle.map_tool.specs.declared.effect.Effect.TheVariants as made
+use Rattle.map_tool.specs.Values.{entries_of, entry_numbers, overlaps, range_totals, totals_of, values_from, values_within}
 
 -- a register gets a map, and the reply is its size; or no register changes, and the reply is a line
 pub data Effect : Type 0 where
@@ -90,3 +93,29 @@ HasEffect e result old new text grown =
     MatchResult result (λ _. grown ≡ text ++ reply_of e) (λ _. grown ≡ text)
     × OnOk result (maps_of new ≡ registers_after (maps_of old) e)
     × OnErr result (new ≡ old)
+
+-- what is done to registers, and replied
+abbrev pub done : Registers → Made → Effect
+done rs (made.Changes d map) = changes d map.entries
+done rs (made.Puts d k v) = changes d (set nat_cmp (register rs d) k v)
+done rs (made.Dels d k) = changes d (drop_key nat_cmp (register rs d) k)
+done rs (made.Found val) = replies (found_line val)
+done rs (made.Entry entry) = replies (entry_line entry)
+done rs (made.Totals totals) = replies (totals_line totals)
+done rs (made.List map) = replies (list_line map.entries)
+done rs (made.Size size) = replies (line_of (codes "size") (size ∷ []))
+done rs (made.Max greatest) = replies (line_of (codes "max") (greatest ∷ []))
+done rs (made.Rank rank) = replies (line_of (codes "rank") (rank ∷ []))
+done rs (made.Count count) = replies (line_of (codes "count") (count ∷ []))
+done rs made.Overlap = replies (line_of (codes "overlap") [])
+
+-- the register that changes is one of the sixteen
+abbrev pub IsLow : Made → Type 0
+IsLow (made.Changes d map) = d < 16
+IsLow (made.Puts d k v) = d < 16
+IsLow (made.Dels d k) = d < 16
+IsLow made = Unit {0}
+
+-- it does this to registers, of which it changes one of the sixteen
+abbrev pub Does : Registers → Made → Effect → Type 0
+Does rs made effect = (done rs made ≡ effect) × IsLow made

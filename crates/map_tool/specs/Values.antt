@@ -1,13 +1,11 @@
 -- What the tool map says of the values of a map, and of two maps.
-use Rattle.std.specs.Prelude.{ℕ, ◌+◌, ◌-◌, ◌^◌, ◌&&◌, List, [], ◌∷◌, Bool, false, not, Option, Some, None, length, map, min, max, nat_le, nat_lt, slice_get}
+use Rattle.std.specs.Prelude.{ℕ, ◌-◌, ◌&&◌, List, [], ◌∷◌, Bool, false, not, Option, Some, None, length, map, nat_le, nat_lt, slice_get}
 use Rattle.std.specs.List.{filter}
 use Rattle.std.specs.Ordering.{nat_cmp}
 use Rattle.map_model.specs.Fold.{fold_of, range_fold}
 use Rattle.aug_monoid.specs.Totals.{totals_base, totals_combine, totals_unit}
 use Rattle.aug_monoid.specs.declared.totals.Totals.{Totals}
 use Rattle.aug_monoid.specs.declared.pair64.Pair64.{Pair64}
-use Rattle.map_records.specs.declared.how.How.{How}
-use Rattle.map_records.specs.declared.how.How.TheVariants as how
 
 -- the saturating sum and the greatest of all values
 unfoldable pub totals_of : List (ℕ × ℕ) → Totals
@@ -24,13 +22,6 @@ values_within m lo hi = filter (λ e. nat_le lo e.1 && nat_le e.1 hi) m
 -- the entries whose values are at least t
 abbrev pub values_from : List (ℕ × ℕ) → ℕ → List (ℕ × ℕ)
 values_from m t = filter (λ e. nat_le t e.1) m
-
--- the value at a key of two maps, from that of the first and that of the second
-abbrev pub resolved_by : How → ℕ → ℕ → ℕ
-resolved_by how.First a b = a
-resolved_by how.Second a b = b
-resolved_by how.Sum a b = min (a + b) (2 ^ 64 - 1)
-resolved_by how.Max a b = max a b
 
 -- pairs as entries
 abbrev pub entries_of : List Pair64 → List (ℕ × ℕ)

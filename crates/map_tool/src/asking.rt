@@ -1,64 +1,20 @@
-//! Commands that ask: each appends its reply, or nothing.
-ghost use Rattle.std.specs.Prelude.{◌≡◌, ◌≤◌, ◌+◌, [], ◌∷◌, ◌++◌, codes, length, IfOk, MatchResult};
-ghost use Rattle.std.specs.Ordering.{nat_cmp};
-ghost use Rattle.map_model.specs.Entries.{lookup};
-ghost use Rattle.map_model.specs.Parts.{next, prev, rank, select, slice};
-ghost use Rattle.map_tool.specs.Bounds.{fold_steps, get_steps};
-ghost use Rattle.map_tool.specs.Effects.{entry_line, found_line, list_line, totals_line};
+//! What commands ask of a map by more than one call of the library.
+ghost use Rattle.std.specs.Prelude.{◌≡◌, ◌≤◌, ◌+◌, length, IfOk};
+ghost use Rattle.map_tool.specs.Bounds.{fold_steps};
 ghost use Rattle.map_tool.specs.Values.{range_totals, totals_of, values_within};
-ghost use Rattle.script.specs.Lines.{line_of};
+ghost use Rattle.map_tool.specs.declared.effect.Effect.TheVariants as made;
 
-use crate::entries::EntryNumbers;
+use crate::effect::Effect;
 use crate::registers::Register;
 use crate::values::{Greatest, Within};
 use aug_monoid::{NoMemory, Steps, Totals};
 use fork_join::{Cut, Gate};
-use script::{counted_line, line};
 use std::alloc::Global;
 use std::marker::Sync;
 use std::sync::ledger::Ledger;
 use std::thread::Threads;
 
-fn push_totals(totals: &Totals, text: &mut Vec<u8>) -> Result<(), NoMemory>
-    ensures { MatchResult result (λ _. text.new.items ≡ text.old.items ++ totals_line totals.now) (λ _. text.new.items ≡ text.old.items) }
-{
-    line(text, "aug", &[totals.sum, totals.greatest])
-}
-
-fn push_entry(entry: Option<(u64, u64)>, text: &mut Vec<u8>) -> Result<(), NoMemory>
-    ensures { MatchResult result (λ _. text.new.items ≡ text.old.items ++ entry_line entry) (λ _. text.new.items ≡ text.old.items) }
-{
-    match entry {
-        Some((key, val)) => line(text, "entry", &[key, val]),
-        None => line(text, "none", &[]),
-    }
-}
-
-/// The value at a key.
-pub(crate) fn get<C: Ledger>(
-    alloc: Global,
-    map: &Register,
-    k: u64,
-    steps: &mut Steps<C>,
-    text: &mut Vec<u8>,
-) -> Result<(), NoMemory>
-    ensures reply { MatchResult result (λ _. text.new.items ≡ text.old.items ++ found_line (lookup nat_cmp map.now.entries k)) (λ _. text.new.items ≡ text.old.items) }
-    ensures cost { steps.new ≤ steps.old + get_steps map.now.height }
-{
-    match map.get(alloc, &k, steps)? {
-        Some(val) => line(text, "some", &[val]),
-        None => line(text, "none", &[]),
-    }
-}
-
-/// How many entries there are.
-pub(crate) fn size(map: &Register, text: &mut Vec<u8>) -> Result<(), NoMemory>
-    ensures { MatchResult result (λ _. text.new.items ≡ text.old.items ++ line_of (codes "size") (length map.now.entries ∷ [])) (λ _. text.new.items ≡ text.old.items) }
-{
-    line(text, "size", &[map.size()])
-}
-
-/// The totals of a range of keys.
+/// The totals of a range of keys, in time linear in the height.
 #[tactic(auto, unfolding(crate::specs::Values::range_totals))]
 pub(crate) fn sum<C: Ledger>(
     alloc: Global,
@@ -66,18 +22,17 @@ pub(crate) fn sum<C: Ledger>(
     lo: u64,
     hi: u64,
     steps: &mut Steps<C>,
-    text: &mut Vec<u8>,
-) -> Result<(), NoMemory>
-    ensures reply { MatchResult result (λ _. text.new.items ≡ text.old.items ++ totals_line (range_totals map.now.entries lo hi)) (λ _. text.new.items ≡ text.old.items) }
+) -> Result<Effect, NoMemory>
+    ensures totals { IfOk result (λ effect. effect ≡ made.Totals (range_totals map.now.entries lo hi)) }
     ensures cost { steps.new ≤ steps.old + fold_steps map.now.height }
 {
     let totals = map.aug_range(alloc, &lo, &hi, steps)?;
-    push_totals(&totals, text)
+    Ok(Effect::Totals(totals))
 }
 
-// The totals of all entries.
+/// The totals of all entries. O(1).
 #[tactic(auto, unfolding(crate::specs::Values::totals_of))]
-fn totals_of(map: &Register) -> Totals
+pub(crate) fn totals_of(map: &Register) -> Totals
     ensures { result ≡ totals_of map.now.entries }
 {
     match map.aug() {
@@ -89,94 +44,13 @@ fn totals_of(map: &Register) -> Totals
     }
 }
 
-/// The totals of all entries.
-pub(crate) fn fold(map: &Register, text: &mut Vec<u8>) -> Result<(), NoMemory>
-    ensures { MatchResult result (λ _. text.new.items ≡ text.old.items ++ totals_line (totals_of map.now.entries)) (λ _. text.new.items ≡ text.old.items) }
-{
-    push_totals(&totals_of(map), text)
-}
-
-/// The greatest value of a range of keys.
+/// The greatest value of a range of keys, in time linear in the height.
 #[tactic(auto, unfolding(crate::specs::Values::range_totals))]
-pub(crate) fn greatest(
-    alloc: Global,
-    map: &Register,
-    lo: u64,
-    hi: u64,
-    text: &mut Vec<u8>,
-) -> Result<(), NoMemory>
-    ensures { MatchResult result (λ _. text.new.items ≡ text.old.items ++ line_of (codes "max") ((range_totals map.now.entries lo hi).greatest ∷ [])) (λ _. text.new.items ≡ text.old.items) }
+pub(crate) fn greatest(alloc: Global, map: &Register, lo: u64, hi: u64) -> Result<Effect, NoMemory>
+    ensures { IfOk result (λ effect. effect ≡ made.Max (range_totals map.now.entries lo hi).greatest) }
 {
-    let most = map.aug_project(alloc, &lo, &hi, &Greatest)?;
-    line(text, "max", &[most])
-}
-
-/// How many keys are less than one.
-pub(crate) fn rank<C: Ledger>(
-    map: &Register,
-    k: u64,
-    steps: &mut Steps<C>,
-    text: &mut Vec<u8>,
-) -> Result<(), NoMemory>
-    ensures { MatchResult result (λ _. text.new.items ≡ text.old.items ++ line_of (codes "rank") (rank nat_cmp map.now.entries k ∷ [])) (λ _. text.new.items ≡ text.old.items) }
-{
-    line(text, "rank", &[map.rank(&k, steps)])
-}
-
-/// The entry at a place.
-pub(crate) fn select(
-    alloc: Global,
-    map: &Register,
-    i: u64,
-    text: &mut Vec<u8>,
-) -> Result<(), NoMemory>
-    ensures { MatchResult result (λ _. text.new.items ≡ text.old.items ++ entry_line (select map.now.entries i)) (λ _. text.new.items ≡ text.old.items) }
-{
-    let found = map.select(alloc, i)?;
-    push_entry(found, text)
-}
-
-/// The entry with the least key greater than one.
-pub(crate) fn next<C: Ledger>(
-    alloc: Global,
-    map: &Register,
-    k: u64,
-    steps: &mut Steps<C>,
-    text: &mut Vec<u8>,
-) -> Result<(), NoMemory>
-    ensures { MatchResult result (λ _. text.new.items ≡ text.old.items ++ entry_line (next nat_cmp map.now.entries k)) (λ _. text.new.items ≡ text.old.items) }
-{
-    let found = map.next(alloc, &k, steps)?;
-    push_entry(found, text)
-}
-
-/// The entry with the greatest key less than one.
-pub(crate) fn prev<C: Ledger>(
-    alloc: Global,
-    map: &Register,
-    k: u64,
-    steps: &mut Steps<C>,
-    text: &mut Vec<u8>,
-) -> Result<(), NoMemory>
-    ensures { MatchResult result (λ _. text.new.items ≡ text.old.items ++ entry_line (prev nat_cmp map.now.entries k)) (λ _. text.new.items ≡ text.old.items) }
-{
-    let found = map.prev(alloc, &k, steps)?;
-    push_entry(found, text)
-}
-
-/// The entries of a range of keys.
-pub(crate) fn list(
-    alloc: Global,
-    map: &Register,
-    lo: u64,
-    hi: u64,
-    text: &mut Vec<u8>,
-) -> Result<(), NoMemory>
-    ensures { MatchResult result (λ _. text.new.items ≡ text.old.items ++ list_line (slice nat_cmp map.now.entries lo hi)) (λ _. text.new.items ≡ text.old.items) }
-{
-    let part = map.slice(alloc, &lo, &hi)?;
-    let entries = part.to_vec(alloc)?;
-    counted_line::<EntryNumbers, _, _>(alloc, text, "list", &entries)
+    let greatest = map.aug_project(alloc, &lo, &hi, &Greatest)?;
+    Ok(Effect::Max(greatest))
 }
 
 // How many values lie from one to another.
@@ -195,7 +69,7 @@ fn count_within<R: Threads + Sync, G: Gate>(
     map.map_reduce(rt, alloc, gate, cut, &Within { lo, hi })
 }
 
-/// How many values lie from one to another.
+/// How many values lie from one to another, in time linear in the number of entries.
 pub(crate) fn count<R: Threads + Sync, G: Gate>(
     rt: &R,
     alloc: Global,
@@ -204,10 +78,9 @@ pub(crate) fn count<R: Threads + Sync, G: Gate>(
     map: &Register,
     lo: u64,
     hi: u64,
-    text: &mut Vec<u8>,
-) -> Result<(), NoMemory>
-    ensures { MatchResult result (λ _. text.new.items ≡ text.old.items ++ line_of (codes "count") (length (values_within map.now.entries lo hi) ∷ [])) (λ _. text.new.items ≡ text.old.items) }
+) -> Result<Effect, NoMemory>
+    ensures { IfOk result (λ effect. effect ≡ made.Count (length (values_within map.now.entries lo hi))) }
 {
     let within = count_within(rt, alloc, gate, cut, map, lo, hi)?;
-    line(text, "count", &[within])
+    Ok(Effect::Count(within))
 }

@@ -1,15 +1,15 @@
 //! One command of the tool map.
-ghost use Rattle.std.specs.Prelude.{◌≡◌, ◌≤◌, ◌+◌, ◌++◌, IfSome, MatchResult, OnErr, OnOk};
+ghost use Rattle.std.specs.Prelude.{◌≡◌, ◌≤◌, ◌+◌, ◌++◌, IfOk, IfSome, MatchResult, OnErr, OnOk};
 ghost use Rattle.map_records.specs.MapRecords.{HasRegisters};
-ghost use Rattle.map_tool.specs.Bounds.{most_steps};
-ghost use Rattle.map_tool.specs.Effects.{map_after, map_reply};
+ghost use Rattle.map_tool.specs.Bounds.{most_steps, steps_left};
+ghost use Rattle.map_tool.specs.Effects.{Does, effect, map_after, map_reply};
 ghost use Rattle.map_tool.specs.Registers.{maps_of};
 
-use crate::asking::{count, fold, get, greatest, list, next, prev, rank, select, size, sum};
-use crate::changing::{above, at_least, below, clear, copy, filter, slice};
-use crate::combining::{build, cat, del_all, difference, intersect, put_all, union};
-use crate::registers::Registers;
-use aug_monoid::{NoMemory, Steps};
+use crate::asking::{count, greatest, sum, totals_of};
+use crate::changing::{at_least, build, cat, del_all, diff, filter, put_all};
+use crate::effect::{Effect, change};
+use crate::registers::{Register, Registers};
+use aug_monoid::{NoMemory, Share, Steps};
 use fork_join::{Cut, Gate};
 use map_records::MapCommand;
 use std::alloc::Global;
@@ -17,9 +17,62 @@ use std::marker::Sync;
 use std::sync::ledger::Ledger;
 use std::thread::Threads;
 
-/// Runs one command of the tool map, and appends its reply to a text. `get` takes at most the steps of a look-up in its register,
-/// `put` and `del` those of a change of one entry, `sum` those of a range fold, and `fold` none. A refusal, which is only for want
-/// of memory, leaves the registers and the text as they were.
+// What a command does, from the registers before it, in the time of the one call of its row.
+fn effect_of<R: Threads + Sync, G: Gate, C: Ledger>(
+    rt: &R,
+    alloc: Global,
+    gate: &G,
+    cut: Cut,
+    maps: &Registers,
+    command: &MapCommand,
+    steps: &mut Steps<C>,
+) -> Result<Effect, NoMemory>
+    requires { HasRegisters command.now }
+    ensures effect { IfOk result (λ made. Does (maps_of maps.now) made (effect (maps_of maps.now) command.now)) }
+    ensures cost { IfSome (most_steps maps.now command.now) (λ most. steps.new + steps_left maps.now result ≤ steps.old + most) }
+{
+    match command {
+        MapCommand::Put { d, k, v } => Ok(Effect::Puts(*d, *k, *v)),
+        MapCommand::Del { d, k } => Ok(Effect::Dels(*d, *k)),
+        MapCommand::Get { m, k } => Ok(Effect::Found(maps.at(*m).get(alloc, k, steps)?)),
+        MapCommand::Size { m } => Ok(Effect::Size(maps.at(*m).size())),
+        MapCommand::Sum { m, lo, hi } => sum(alloc, maps.at(*m), *lo, *hi, steps),
+        MapCommand::Fold { m } => Ok(Effect::Totals(totals_of(maps.at(*m)))),
+        MapCommand::Max { m, lo, hi } => greatest(alloc, maps.at(*m), *lo, *hi),
+        MapCommand::Rank { m, k } => Ok(Effect::Rank(maps.at(*m).rank(k, steps))),
+        MapCommand::Select { m, i } => Ok(Effect::Entry(maps.at(*m).select(alloc, *i)?)),
+        MapCommand::Next { m, k } => Ok(Effect::Entry(maps.at(*m).next(alloc, k, steps)?)),
+        MapCommand::Prev { m, k } => Ok(Effect::Entry(maps.at(*m).prev(alloc, k, steps)?)),
+        MapCommand::List { m, lo, hi } => Ok(Effect::List(maps.at(*m).slice(alloc, lo, hi)?)),
+        MapCommand::Count { m, lo, hi } => count(rt, alloc, gate, cut, maps.at(*m), *lo, *hi),
+        MapCommand::Copy { d, m } => change(*d, maps.at(*m).share(alloc)?),
+        MapCommand::Clear { d } => change(*d, Register::empty()),
+        MapCommand::Build { d, pairs } => change(*d, build(rt, alloc, gate, cut, pairs.items())?),
+        MapCommand::Mput { d, pairs } => put_all(rt, alloc, gate, cut, *d, maps.at(*d), pairs),
+        MapCommand::Mdel { d, keys } => del_all(rt, alloc, gate, cut, *d, maps.at(*d), keys),
+        MapCommand::Union { d, a, b, how } => {
+            let (a, b) = (maps.at(*a), maps.at(*b));
+            change(*d, a.union(rt, alloc, gate, cut, b, how)?)
+        }
+        MapCommand::Inter { d, a, b, how } => {
+            let (a, b) = (maps.at(*a), maps.at(*b));
+            change(*d, a.intersect(rt, alloc, gate, cut, b, how)?)
+        }
+        MapCommand::Diff { d, a, b } => diff(rt, alloc, gate, cut, *d, maps.at(*a), maps.at(*b)),
+        MapCommand::Cat { d, a, b } => cat(alloc, *d, maps.at(*a), maps.at(*b), steps),
+        MapCommand::Below { d, m, k } => change(*d, maps.at(*m).below(alloc, k)?),
+        MapCommand::Above { d, m, k } => change(*d, maps.at(*m).above(alloc, k)?),
+        MapCommand::Slice { d, m, lo, hi } => change(*d, maps.at(*m).slice(alloc, lo, hi)?),
+        MapCommand::Atleast { d, m, t } => change(*d, at_least(alloc, maps.at(*m), *t)?),
+        MapCommand::Filter { d, m, lo, hi } => {
+            change(*d, filter(rt, alloc, gate, cut, maps.at(*m), *lo, *hi)?)
+        }
+    }
+}
+
+/// Runs one command of the tool map, and appends its reply to a text. `get` takes at most the steps of a look-up in its
+/// register, `put` and `del` those of a change of one entry, `sum` those of a range fold, and `fold` none. A refusal, which is
+/// only for want of memory, leaves the registers and the text as they were.
 pub fn map_command<R: Threads + Sync, G: Gate, C: Ledger>(
     rt: &R,
     alloc: Global,
@@ -36,49 +89,6 @@ pub fn map_command<R: Threads + Sync, G: Gate, C: Ledger>(
     ensures refused { OnErr result (registers.new ≡ registers.old) }
     ensures cost { IfSome (most_steps registers.old command.now) (λ most. steps.new ≤ steps.old + most) }
 {
-    match command {
-        MapCommand::Put { d, k, v } => registers.put(alloc, *d, *k, *v, steps, text),
-        MapCommand::Del { d, k } => registers.del(alloc, *d, *k, steps, text),
-        MapCommand::Get { m, k } => get(alloc, registers.map(*m), *k, steps, text),
-        MapCommand::Size { m } => size(registers.map(*m), text),
-        MapCommand::Sum { m, lo, hi } => sum(alloc, registers.map(*m), *lo, *hi, steps, text),
-        MapCommand::Fold { m } => fold(registers.map(*m), text),
-        MapCommand::Max { m, lo, hi } => greatest(alloc, registers.map(*m), *lo, *hi, text),
-        MapCommand::Rank { m, k } => rank(registers.map(*m), *k, steps, text),
-        MapCommand::Select { m, i } => select(alloc, registers.map(*m), *i, text),
-        MapCommand::Next { m, k } => next(alloc, registers.map(*m), *k, steps, text),
-        MapCommand::Prev { m, k } => prev(alloc, registers.map(*m), *k, steps, text),
-        MapCommand::List { m, lo, hi } => list(alloc, registers.map(*m), *lo, *hi, text),
-        MapCommand::Count { m, lo, hi } => {
-            count(rt, alloc, gate, cut, registers.map(*m), *lo, *hi, text)
-        }
-        MapCommand::Copy { d, m } => copy(alloc, registers, *d, *m, text),
-        MapCommand::Clear { d } => clear(registers, *d, text),
-        MapCommand::Build { d, pairs } => {
-            build(rt, alloc, gate, cut, registers, *d, pairs.items(), text)
-        }
-        MapCommand::Mput { d, pairs } => {
-            put_all(rt, alloc, gate, cut, registers, *d, pairs.items(), text)
-        }
-        MapCommand::Mdel { d, keys } => {
-            del_all(rt, alloc, gate, cut, registers, *d, keys.items(), text)
-        }
-        MapCommand::Union { d, a, b, how } => {
-            union(rt, alloc, gate, cut, registers, *d, *a, *b, *how, text)
-        }
-        MapCommand::Inter { d, a, b, how } => {
-            intersect(rt, alloc, gate, cut, registers, *d, *a, *b, *how, text)
-        }
-        MapCommand::Diff { d, a, b } => {
-            difference(rt, alloc, gate, cut, registers, *d, *a, *b, text)
-        }
-        MapCommand::Cat { d, a, b } => cat(alloc, registers, *d, *a, *b, steps, text),
-        MapCommand::Below { d, m, k } => below(alloc, registers, *d, *m, *k, text),
-        MapCommand::Above { d, m, k } => above(alloc, registers, *d, *m, *k, text),
-        MapCommand::Slice { d, m, lo, hi } => slice(alloc, registers, *d, *m, *lo, *hi, text),
-        MapCommand::Atleast { d, m, t } => at_least(alloc, registers, *d, *m, *t, text),
-        MapCommand::Filter { d, m, lo, hi } => {
-            filter(rt, alloc, gate, cut, registers, *d, *m, *lo, *hi, text)
-        }
-    }
+    let effect = effect_of(rt, alloc, gate, cut, registers, command, steps)?;
+    registers.apply(alloc, effect, steps, text)
 }

@@ -1,17 +1,18 @@
 //! The tool map: its commands run on sixteen registers, each by one call of the library of maps.
 //!
-//! `map_command` runs one command on `Registers` and appends its reply; a refusal leaves both as they were, and the commands
-//! that change or ask one entry say how many steps they take. `run_map` runs a whole script from empty registers and answers
-//! the replies; long runs of puts into one register are done at once (`put_runs`). What each command means stands in
-//! `specs/Effects`.
+//! `map_command` makes the `Effect` of one command from the maps of `Registers` that it reads, and then does it and appends its
+//! reply in one place; a refusal leaves both as they were, and the commands that change or ask one entry say how many steps they
+//! take. `run_map` runs a whole script from empty registers and answers the replies; long runs of puts into one register are done
+//! at once (`put_runs`). What each command means stands in `specs/Effects`.
 //!
 //! Tests: `program_tests`. Wrong bodies: none here; `pam_top` states these clauses of whole runs.
 #![tactic(auto)]
 
 mod asking;
 mod changing;
-mod combining;
 mod command;
+mod doing;
+mod effect;
 mod entries;
 mod registers;
 mod replacing;

@@ -52,7 +52,7 @@ impl Registers {
     }
 
     /// The map of a register.
-    pub(crate) fn map(&self, number: u8) -> &Register
+    pub(crate) fn at(&self, number: u8) -> &Register
         requires { number < 16 }
         ensures entries { result.now.entries ≡ register (maps_of self.now) number }
         ensures height { result.now.height ≡ height_of self.now number }

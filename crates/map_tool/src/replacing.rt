@@ -25,7 +25,8 @@ fn push_ok(text: &mut Vec<u8>, number: u64)
     };
 }
 
-/// Sets a key of a map to a value, and appends the reply. Its room is made first, since the map has changed before the reply is known.
+/// Sets a key of a map to a value, and appends the reply. Its room is made first, since the map has changed before the reply is
+/// known.
 fn put_and_reply<C: Ledger>(
     alloc: Global,
     map: &mut Register,
@@ -65,7 +66,8 @@ fn del_and_reply<C: Ledger>(
 }
 
 impl Registers {
-    /// Sets a key of a register to a value in place, and appends the reply. A refusal leaves the registers and the text as they were.
+    /// Sets a key of a register to a value in place, and appends the reply. A refusal leaves the registers and the text as they
+    /// were.
     pub(crate) fn put<C: Ledger>(
         &mut self,
         alloc: Global,

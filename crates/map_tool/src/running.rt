@@ -18,6 +18,13 @@ use std::marker::{Brand, Sync};
 use std::sync::ledger::{Blank, Ledger};
 use std::thread::Threads;
 
+/// The registers of a run, and the replies so far.
+#[derive(Drop)]
+struct Run {
+    registers: Registers,
+    text: Vec<u8>,
+}
+
 /// Shorter runs of puts are done one by one, and those into a register of fewer entries, since such a map stays in the caches.
 const FEW_PUTS: usize = 4096;
 
@@ -33,7 +40,7 @@ fn long_run(
     let Some(MapCommand::Put { d, k: _, v: _ }) = run.first() else {
         return Ok(None);
     };
-    if run.len() < FEW_PUTS || registers.map(*d).size() < FEW_PUTS as u64 {
+    if run.len() < FEW_PUTS || registers.at(*d).size() < FEW_PUTS as u64 {
         return Ok(None);
     }
     match entries_put(alloc, *d, run)? {
@@ -42,23 +49,31 @@ fn long_run(
     }
 }
 
-// Runs commands one by one, and appends their replies to a text.
+// Runs commands one by one.
 fn run_each<R: Threads + Sync, G: Gate, C: Ledger>(
     rt: &R,
     alloc: Global,
     gate: &G,
     cut: Cut,
-    registers: &mut Registers,
+    run: &mut Run,
     commands: &[MapCommand],
     steps: &mut Steps<C>,
-    text: &mut Vec<u8>,
 ) -> Result<(), NoMemory>
     requires { AllByRecursion HasRegisters commands.now }
-    ensures replies { OnOk result (text.new.items ≡ text.old.items ++ replies map_reply map_after (maps_of registers.old) commands.now) }
-    ensures after { OnOk result (maps_of registers.new ≡ after_all (maps_of registers.old) commands.now) }
+    ensures replies { OnOk result (run.new.text.items ≡ run.old.text.items ++ replies map_reply map_after (maps_of run.old.registers) commands.now) }
+    ensures after { OnOk result (maps_of run.new.registers ≡ after_all (maps_of run.old.registers) commands.now) }
 {
     for command in commands {
-        map_command(rt, alloc, gate, cut, registers, command, steps, text)?;
+        map_command(
+            rt,
+            alloc,
+            gate,
+            cut,
+            &mut run.registers,
+            command,
+            steps,
+            &mut run.text,
+        )?;
     }
     Ok(())
 }
@@ -69,24 +84,24 @@ fn run_together<R: Threads + Sync, G: Gate, C: Ledger>(
     alloc: Global,
     gate: &G,
     cut: Cut,
-    registers: &mut Registers,
+    run: &mut Run,
     commands: &[MapCommand],
     steps: &mut Steps<C>,
-    text: &mut Vec<u8>,
 ) -> Result<(), NoMemory>
     requires { AllByRecursion HasRegisters commands.now }
-    ensures replies { OnOk result (text.new.items ≡ text.old.items ++ replies map_reply map_after (maps_of registers.old) commands.now) }
-    ensures after { OnOk result (maps_of registers.new ≡ after_all (maps_of registers.old) commands.now) }
+    ensures replies { OnOk result (run.new.text.items ≡ run.old.text.items ++ replies map_reply map_after (maps_of run.old.registers) commands.now) }
+    ensures after { OnOk result (maps_of run.new.registers ≡ after_all (maps_of run.old.registers) commands.now) }
 {
-    match long_run(alloc, registers, commands)? {
+    match long_run(alloc, &run.registers, commands)? {
         Some((number, entries)) => {
-            registers.put_many(rt, alloc, gate, cut, number, &entries, text)
+            run.registers
+                .put_many(rt, alloc, gate, cut, number, &entries, &mut run.text)
         }
-        None => run_each(rt, alloc, gate, cut, registers, commands, steps, text),
+        None => run_each(rt, alloc, gate, cut, run, commands, steps),
     }
 }
 
-// Runs commands in order, and appends their replies to one text.
+// Runs commands in order, and answers their replies.
 fn run_all<R: Threads + Sync, G: Gate, C: Ledger>(
     rt: &R,
     alloc: Global,
@@ -98,15 +113,17 @@ fn run_all<R: Threads + Sync, G: Gate, C: Ledger>(
     requires { AllByRecursion HasRegisters commands.now }
     ensures { IfOk result (λ text. text.items ≡ replies map_reply map_after empty_registers commands.now) }
 {
-    let mut registers = Registers::empty(alloc)?;
-    let mut text = Vec::new(alloc);
+    let mut run = Run {
+        registers: Registers::empty(alloc)?,
+        text: Vec::new(alloc),
+    };
     let mut rest = commands;
     while !rest.is_empty() {
-        let (run, later) = rest.split_at(run_len(rest));
-        run_together(rt, alloc, gate, cut, &mut registers, run, steps, &mut text)?;
+        let (first, later) = rest.split_at(run_len(rest));
+        run_together(rt, alloc, gate, cut, &mut run, first, steps)?;
         rest = later;
     }
-    Ok(text)
+    Ok(run.text)
 }
 
 // The same, with steps that begin with a blank.
@@ -128,8 +145,8 @@ fn run_counted<R: Threads + Sync, G: Gate, C: Ledger>(
     run_all(rt, alloc, gate, cut, commands, &mut steps)
 }
 
-/// The replies to commands of the tool map, run in order from empty registers. They depend neither on the runtime nor on the gate
-/// nor on the cut.
+/// The replies to commands of the tool map, run in order from empty registers. They depend neither on the runtime nor on the
+/// gate nor on the cut.
 pub fn run_map<R: Threads + Sync, G: Gate>(
     rt: &R,
     alloc: Global,

@@ -73,8 +73,8 @@ fn push_oks(text: &mut Vec<u8>, sizes: &[u64]) -> Result<(), NoMemory>
 }
 
 impl Registers {
-    /// Puts entries into a register in order, all at once, and appends the reply of each. After a refusal nothing is said of the
-    /// register and of the text.
+    /// Puts entries into a register in order, all at once, and appends the reply of each. After a refusal nothing is said of
+    /// the register and of the text.
     pub(crate) fn put_many<R: Threads + Sync, G: Gate>(
         &mut self,
         rt: &R,

@@ -1,32 +1,11 @@
-//! What the tool asks of values: tests, counts, and how two values are combined.
+//! What the tool asks of values: tests and counts.
 ghost use Rattle.std.specs.Prelude.{◌≡◌, ◌+◌, ◌-◌, ◌^◌, ◌&&◌, ℕ, cond, min, max, nat_le};
 ghost use Rattle.aug_monoid.specs.declared.totals.Totals.{Totals};
 ghost use Rattle.map_tool.specs.Counts.{CountFits, count_fits, count_monoid};
 ghost use Rattle.map_tool.specs.Greatest.{GreatestFits, greatest_fits, greatest_monoid, greatest_projection, either_passes};
-ghost use Rattle.map_tool.specs.Values.{resolved_by};
 
-use aug_monoid::{AugTest, NoMemory, Project, Reduce, Resolve, SumMax, Test, Totals};
-use map_records::How;
+use aug_monoid::{AugTest, NoMemory, Project, Reduce, SumMax, Test, Totals};
 use std::alloc::Global;
-
-/// How the values of two maps are combined.
-#[derive(Drop)]
-pub(crate) struct ByHow {
-    pub(crate) how: How,
-}
-
-impl Resolve<u64> for ByHow {
-    ghost resolved = { λ s a b. resolved_by s.how a b };
-
-    fn resolve(&self, _alloc: Global, a: &u64, b: &u64) -> Result<u64, NoMemory> {
-        Ok(match self.how {
-            How::First => *a,
-            How::Second => *b,
-            How::Sum => a.saturating_add(*b),
-            How::Max => *a.max(b),
-        })
-    }
-}
 
 /// The values from `lo` to `hi`.
 #[derive(Drop)]

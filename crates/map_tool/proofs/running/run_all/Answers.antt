@@ -17,11 +17,11 @@ loop-rest-preserved g c =
     record {
       lawful = All-back HasRegisters run later (rw parts c.loop-rest.invariant.lawful);
       same =
-          replies-next_run (replies map_reply map_after empty_registers c.args.commands.now) c.loop-rest.text.items c.run_together.new.text.items
-          (maps_of c.loop-rest.registers) (maps_of c.run_together.new.registers) rest run later parts
+          replies-next_run (replies map_reply map_after empty_registers c.args.commands.now) c.loop-rest.run.text.items c.run_together.new.run.text.items
+          (maps_of c.loop-rest.run.registers) (maps_of c.run_together.new.run.registers) rest run later parts
           c.loop-rest.invariant.same c.in_ok-run_together.ensures.replies c.in_ok-run_together.ensures.after;
     }
 
 pub returns : goal.returns
 returns g c =
-    sym (replies-end map_reply map_after (replies map_reply map_after empty_registers c.args.commands.now) c.loop-rest.text.items (maps_of c.loop-rest.registers) c.loop-rest.rest.now 0 (omega (arith, eqb-true (length c.loop-rest.rest.now) 0 (sym c.loop-rest-test.ensures))) c.loop-rest.invariant.same)
+    sym (replies-end map_reply map_after (replies map_reply map_after empty_registers c.args.commands.now) c.loop-rest.run.text.items (maps_of c.loop-rest.run.registers) c.loop-rest.rest.now 0 (omega (arith, eqb-true (length c.loop-rest.rest.now) 0 (sym c.loop-rest-test.ensures))) c.loop-rest.invariant.same)

@@ -9,7 +9,7 @@ use Rattle.map_tool.proofs.running.run_all.Given as goal
 abbrev pub invariant-loop-rest : goal.invariant-loop-rest
 invariant-loop-rest g l = record {
   lawful : AllByRecursion HasRegisters l.rest;
-  same : replies map_reply map_after empty_registers l.commands ≡ l.text.items ++ replies map_reply map_after (maps_of l.registers) l.rest;
+  same : replies map_reply map_after empty_registers l.commands ≡ l.run.text.items ++ replies map_reply map_after (maps_of l.run.registers) l.rest;
 }
 
 abbrev pub decreases-loop-rest : goal.decreases-loop-rest

@@ -12,11 +12,11 @@ pub loop-command-preserved : goal.loop-command-preserved
 loop-command-preserved g c =
     let commands = c.args.commands.now in
     let i = c.loop-command.command-index in
-    let before = maps_of c.loop-command.registers in
+    let before = maps_of c.loop-command.run.registers in
     record {
       lawful = (subst (AllByRecursion HasRegisters) (drop_more commands i c.command-item.result c.loop-command-test.true) c.loop-command.invariant.lawful).1;
       said =
-          replies-next map_reply map_after (c.args.text.now.items ++ replies map_reply map_after (maps_of c.args.registers.now) commands) c.loop-command.text.items before commands i c.command-item.result c.loop-command-test.true c.command-item.is c.loop-command.invariant.said
+          replies-next map_reply map_after (c.args.run.now.text.items ++ replies map_reply map_after (maps_of c.args.run.now.registers) commands) c.loop-command.run.text.items before commands i c.command-item.result c.loop-command-test.true c.command-item.is c.loop-command.invariant.said
           ∙ ap₂ (λ text rs. text ++ replies map_reply map_after rs (drop (i + 1) commands)) (sym c.in_ok-map_command.ensures.reply) (sym c.in_ok-map_command.ensures.after);
       done =
           c.loop-command.invariant.done
@@ -28,11 +28,11 @@ loop-command-preserved g c =
 pub returns-clause-replies : goal.returns-clause-replies
 returns-clause-replies g c =
     let commands = c.args.commands.now in
-    sym (replies-end map_reply map_after (c.args.text.now.items ++ replies map_reply map_after (maps_of c.args.registers.now) commands) c.loop-command.text.items (maps_of c.loop-command.registers) commands c.loop-command.command-index c.loop-command-test.false c.loop-command.invariant.said)
+    sym (replies-end map_reply map_after (c.args.run.now.text.items ++ replies map_reply map_after (maps_of c.args.run.now.registers) commands) c.loop-command.run.text.items (maps_of c.loop-command.run.registers) commands c.loop-command.command-index c.loop-command-test.false c.loop-command.invariant.said)
 
 pub returns-clause-after : goal.returns-clause-after
 returns-clause-after g c =
-    sym (c.loop-command.invariant.done ∙ ap (after_all (maps_of c.loop-command.registers)) (drop_all c.loop-command.command-index c.args.commands.now c.loop-command-test.false))
+    sym (c.loop-command.invariant.done ∙ ap (after_all (maps_of c.loop-command.run.registers)) (drop_all c.loop-command.command-index c.args.commands.now c.loop-command-test.false))
 
 pub map_command-requires-after_bounds : goal.map_command-requires-after_bounds
 map_command-requires-after_bounds g c κs within =

@@ -10,6 +10,6 @@ use Rattle.map_tool.proofs.running.run_each.Given as goal
 abbrev pub invariant-loop-command : goal.invariant-loop-command
 invariant-loop-command g l = record {
   lawful : AllByRecursion HasRegisters (drop l.command-index l.commands);
-  said : l.initial.text.items ++ replies map_reply map_after (maps_of l.initial.registers) l.commands ≡ l.text.items ++ replies map_reply map_after (maps_of l.registers) (drop l.command-index l.commands);
-  done : after_all (maps_of l.initial.registers) l.commands ≡ after_all (maps_of l.registers) (drop l.command-index l.commands);
+  said : l.initial.run.text.items ++ replies map_reply map_after (maps_of l.initial.run.registers) l.commands ≡ l.run.text.items ++ replies map_reply map_after (maps_of l.run.registers) (drop l.command-index l.commands);
+  done : after_all (maps_of l.initial.run.registers) l.commands ≡ after_all (maps_of l.run.registers) (drop l.command-index l.commands);
 }

@@ -1,7 +1,7 @@
 use Rattle.std.proofs.Common.{◌∙◌, arith}
 use Rattle.std.proofs.lemmas.Result.{IfOk-weaker}
 use Rattle.map_tool.proofs.Greatest.{values_from_is}
-use Rattle.map_tool.proofs.changing.values_from.Goals as goal
+use Rattle.map_tool.proofs.changing.at_least.Goals as goal
 
 pub returns : goal.returns
 returns c =
