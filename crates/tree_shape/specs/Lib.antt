@@ -1,0 +1,6 @@
+pub mod Cuts
+pub mod Shape
+pub mod Top
+pub mod Look
+pub mod Clamped
+pub mod Lawful

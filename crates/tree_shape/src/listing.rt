@@ -1,0 +1,166 @@
+//! A tree of given entries, and the entries of a tree.
+ghost use Rattle.std.specs.Prelude.{◌≡◌, ◌+◌, ◌-◌, ◌*◌, ◌/◌, ◌^◌, ◌<◌, ◌≤◌, ◌++◌, [], ◌∷◌, IfOk, OnErr, length, take};
+ghost use Rattle.map_model.specs.Balance.{FillsNode, IsBalanced, weight};
+ghost use Rattle.map_model.specs.Entries.{IsIncreasing};
+ghost use Rattle.tree_shape.specs.Cuts.{IsCutAround};
+
+use crate::look::Look;
+use crate::shape::Shape;
+use crate::tree::Tree;
+use aug_monoid::{Key, Leaf, NoMemory, Share, Steps, share_entry};
+use std::alloc::Global;
+use std::sync::ledger::Ledger;
+
+/// Appends an entry.
+fn push_shared<K: Key, V: Share>(
+    alloc: Global,
+    key: &K,
+    val: &V,
+    out: &mut Vec<(K, V)>,
+) -> Result<(), NoMemory>
+    ensures appended { IfOk result (λ _. out.new.items ≡ out.old.items ++ (key.now, val.now) ∷ []) }
+    ensures kept { OnErr result (out.new.items ≡ out.old.items) }
+{
+    out.push(share_entry(alloc, key, val)?)?;
+    Ok(())
+}
+
+/// The entry in the middle of a slice, and what stands before and after it.
+fn cut_middle<E>(from: &[E]) -> (&[E], &E, &[E])
+    requires { 0 < length from.now }
+    ensures { IsCutAround from.now ((length from.now - 1) / 2) result.0.now result.1.now result.2.now }
+{
+    let (front, rest) = from.split_at((from.len() - 1) / 2);
+    let Some((middle, back)) = rest.split_first() else {
+        unreachable!()
+    };
+    (front, middle, back)
+}
+
+impl<M: Shape> Tree<M> {
+    /// Appends the entries in the order of their keys, block by block, in time linear in their number. A refusal leaves some of
+    /// them behind what stood there before.
+    pub fn push_entries(
+        &self,
+        alloc: Global,
+        out: &mut Vec<(M::Key, M::Val)>,
+    ) -> Result<(), NoMemory>
+        ensures appended { IfOk result (λ _. out.new.items ≡ out.old.items ++ self.now.entries) }
+        ensures kept { take (length out.old.items) out.new.items ≡ out.old.items }
+    {
+        match self.look() {
+            Look::Empty => Ok(()),
+            Look::Block { leaf } => leaf.share_into(alloc, out),
+            Look::Node {
+                left,
+                key,
+                val,
+                right,
+            } => {
+                left.push_entries(alloc, out)?;
+                push_shared(alloc, key, val, out)?;
+                right.push_entries(alloc, out)
+            }
+        }
+    }
+
+    /// The tree of entries whose keys rise, by halves, in time linear in their number.
+    pub fn from_increasing<C: Ledger>(
+        alloc: Global,
+        from: &[(M::Key, M::Val)],
+        steps: &mut Steps<C>,
+    ) -> Result<Tree<M>, NoMemory>
+        requires increasing { IsIncreasing M.Key.cmp from.now }
+        requires fits { length from.now < 2 ^ 60 }
+        ensures entries { IfOk result (λ tree. tree.entries ≡ from.now) }
+        ensures cost { steps.new ≤ steps.old + 2 * length from.now }
+    {
+        if from.len() <= 2 * M::BLOCK {
+            let leaf = <M::Leaf>::from_entries(alloc, from)?;
+            return Self::block_or_none(alloc, leaf, steps);
+        }
+        let (front, middle, back) = cut_middle(from);
+        let left = Self::from_increasing(alloc, front, steps)?;
+        let right = Self::from_increasing(alloc, back, steps)?;
+        Self::node_around(alloc, left, middle, right, steps)
+    }
+
+    /// A node over two balanced sides and another owner of an entry between them.
+    fn node_around<C: Ledger>(
+        alloc: Global,
+        left: Tree<M>,
+        middle: &(M::Key, M::Val),
+        right: Tree<M>,
+        steps: &mut Steps<C>,
+    ) -> Result<Tree<M>, NoMemory>
+        requires increasing { IsIncreasing M.Key.cmp (left.entries ++ middle.now ∷ right.entries) }
+        requires balanced { IsBalanced (weight left.entries) (weight right.entries) }
+        requires filled { FillsNode M.BLOCK (length left.entries) (length right.entries) }
+        ensures entries { IfOk result (λ tree. tree.entries ≡ left.entries ++ middle.now ∷ right.entries) }
+        ensures cost { steps.new ≤ steps.old + 2 }
+    {
+        let (key, val) = middle.share(alloc)?;
+        Self::node(alloc, left, key, val, right, steps)
+    }
+
+    /// The tree of entries that are handed over, whose keys rise, in time linear in their number. It shares none of them.
+    pub fn from_owned<C: Ledger>(
+        alloc: Global,
+        from: Vec<(M::Key, M::Val)>,
+        steps: &mut Steps<C>,
+    ) -> Result<Tree<M>, NoMemory>
+        requires increasing { IsIncreasing M.Key.cmp from.items }
+        requires fits { length from.items < 2 ^ 60 }
+        ensures entries { IfOk result (λ tree. tree.entries ≡ from.items) }
+        ensures cost { steps.new ≤ steps.old + 2 * length from.items }
+    {
+        let count = from.len();
+        let mut rest = from;
+        Self::take_last(alloc, &mut rest, count, steps)
+    }
+
+    /// The block of the last entries of a vector, which are taken off it, or none where it is none of them.
+    fn take_block<C: Ledger>(
+        alloc: Global,
+        from: &mut Vec<(M::Key, M::Val)>,
+        count: usize,
+        steps: &mut Steps<C>,
+    ) -> Result<Tree<M>, NoMemory>
+        requires increasing { IsIncreasing M.Key.cmp from.old.items }
+        requires inside { count ≤ length from.old.items }
+        requires short { count ≤ 2 * M.BLOCK }
+        ensures entries { IfOk result (λ tree. from.old.items ≡ from.new.items ++ tree.entries) }
+        ensures count { IfOk result (λ tree. length tree.entries ≡ count) }
+        ensures cost { steps.new ≤ steps.old + count }
+    {
+        let entries = from.split_off(from.len() - count)?;
+        let leaf = <M::Leaf>::from_owned(alloc, entries)?;
+        Self::block_or_none(alloc, leaf, steps)
+    }
+
+    /// The tree of the last entries of a vector, which are taken off it, by halves.
+    fn take_last<C: Ledger>(
+        alloc: Global,
+        from: &mut Vec<(M::Key, M::Val)>,
+        count: usize,
+        steps: &mut Steps<C>,
+    ) -> Result<Tree<M>, NoMemory>
+        requires increasing { IsIncreasing M.Key.cmp from.old.items }
+        requires fits { length from.old.items < 2 ^ 60 }
+        requires inside { count ≤ length from.old.items }
+        ensures entries { IfOk result (λ tree. from.old.items ≡ from.new.items ++ tree.entries) }
+        ensures count { IfOk result (λ tree. length tree.entries ≡ count) }
+        ensures cost { steps.new ≤ steps.old + 2 * count }
+    {
+        if count <= 2 * M::BLOCK {
+            return Self::take_block(alloc, from, count, steps);
+        }
+        let before = (count - 1) / 2;
+        let right = Self::take_last(alloc, from, count - 1 - before, steps)?;
+        let Some((key, val)) = from.pop() else {
+            unreachable!()
+        };
+        let left = Self::take_last(alloc, from, before, steps)?;
+        Self::node(alloc, left, key, val, right, steps)
+    }
+}
