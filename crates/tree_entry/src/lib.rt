@@ -1,0 +1,20 @@
+//! Look-ups and changes of single keys in persistent maps.
+//!
+//! A map is a `Tree` of `tree_shape`. A change copies the path to its key and one block, and shares the rest with its argument.
+//! A call refuses only for want of memory.
+//!
+//! It stands on `tree_join` and `tree_shape`. `tree_points` has these calls over three parameters, and goes when the crates above
+//! it have moved here.
+//!
+//! Tests: none yet; those of `tree_tests` move here. Wrong bodies: none here; `aug_map` will state these clauses again.
+#![tactic(auto)]
+
+mod dels;
+mod gets;
+mod leaves;
+mod puts;
+mod sides;
+
+pub use dels::del;
+pub use gets::get;
+pub use puts::{put, put_sought, single};
