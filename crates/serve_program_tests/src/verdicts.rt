@@ -11,11 +11,11 @@ use std::thread::Threads;
 
 /// Texts that are none of the input `TWO_BATCHES`, and the least point that fails.
 const UNLAWFUL: &[(&[u8], u32)] = &[
-    // no last line, a word that no line begins with, and a number of batches that is another
+    // no last line, and a word that no line begins with
     (b"", 0),
     (b"k,1,2\nj,2,3\nfinal,0,0\n", 0),
-    (b"j,1,2\nfinal,1,1\n", 0),
-    // one batch twice
+    // a batch that is missing, and one batch twice
+    (b"j,1,2\nfinal,1,1\n", 1),
     (b"j,1,2\nj,2,2\nfinal,1,1\n", 1),
     // the graph of the other order
     (b"j,1,2\nj,2,3\nfinal,1,1\n", 6),
