@@ -1,0 +1,18 @@
+//! Trees made of entries and of other trees: a tree of a list, the list of a tree, and trees joined around an entry.
+//!
+//! These are calls of `tree_shape` and `tree_join` with a counter of their own, for callers that have no bound on steps to keep.
+//! `tree_of` takes its entries from a vector and moves them; `tree_of_slice` shares them. O(n) for n entries, and O(log n) for a
+//! join. A call refuses only for want of memory.
+//!
+//! It stands on `tree_join` and `tree_shape`. `tree_making` has these calls over three parameters, and goes when the crates above
+//! it have moved here.
+//!
+//! Tests: none yet; those of `bulk_tests` move here. Wrong bodies: none here; `bulk_ops` and `batch_ops` will prove theirs by
+//! these clauses.
+#![tactic(auto)]
+
+mod joining;
+mod listing;
+
+pub use joining::{join_around, joined};
+pub use listing::{entries_of, tree_of, tree_of_slice};

@@ -1,0 +1,78 @@
+//! Trees of entries, and the entries of trees.
+ghost use Rattle.std.specs.Prelude.{◌≡◌, ◌<◌, ◌^◌, IfOk, length};
+ghost use Rattle.map_model.specs.Entries.{IsIncreasing};
+
+use aug_monoid::{NoMemory, Steps};
+use std::alloc::Global;
+use std::marker::Brand;
+use std::sync::ledger::{Blank, Ledger};
+use tree_shape::{MOST_ENTRIES, Shape, Tree};
+
+/// The entries of a tree. O(n) for n entries.
+pub fn entries_of<M: Shape>(
+    alloc: Global,
+    tree: &Tree<M>,
+) -> Result<Vec<(M::Key, M::Val)>, NoMemory>
+    ensures { IfOk result (λ v. v.items ≡ tree.now.entries) }
+{
+    let mut entries = Vec::with_capacity(alloc, tree.size() as usize)?;
+    tree.push_entries(alloc, &mut entries)?;
+    Ok(entries)
+}
+
+/// The tree of increasing entries that are handed over. O(n) for n entries. `NoMemory` also for more than a map can have.
+pub fn tree_of<M: Shape>(alloc: Global, entries: Vec<(M::Key, M::Val)>) -> Result<Tree<M>, NoMemory>
+    requires increasing { IsIncreasing M.Key.cmp entries.items }
+    ensures { IfOk result (λ tree. tree.entries ≡ entries.items) }
+{
+    if entries.len() as u64 >= MOST_ENTRIES {
+        return Err(NoMemory);
+    }
+    tree_of_counted::<M, Brand>(alloc, entries, Blank::new(1))
+}
+
+fn tree_of_counted<M: Shape, C: Ledger>(
+    alloc: Global,
+    entries: Vec<(M::Key, M::Val)>,
+    blank: Blank,
+) -> Result<Tree<M>, NoMemory>
+    requires increasing { IsIncreasing M.Key.cmp entries.items }
+    requires fits { length entries.items < 2 ^ 60 }
+    requires name { blank.name ≡ C.name }
+    requires parts { blank.parts ≡ C.parts }
+    requires some { 0 < blank.parts }
+    ensures { IfOk result (λ tree. tree.entries ≡ entries.items) }
+{
+    let mut steps = Steps::<C>::start(blank);
+    Tree::from_owned(alloc, entries, &mut steps)
+}
+
+/// The tree of increasing entries, which are shared. O(n) for n entries. `NoMemory` also for more than a map can have.
+pub fn tree_of_slice<M: Shape>(
+    alloc: Global,
+    entries: &[(M::Key, M::Val)],
+) -> Result<Tree<M>, NoMemory>
+    requires increasing { IsIncreasing M.Key.cmp entries.now }
+    ensures { IfOk result (λ tree. tree.entries ≡ entries.now) }
+{
+    if entries.len() as u64 >= MOST_ENTRIES {
+        return Err(NoMemory);
+    }
+    tree_of_slice_counted::<M, Brand>(alloc, entries, Blank::new(1))
+}
+
+fn tree_of_slice_counted<M: Shape, C: Ledger>(
+    alloc: Global,
+    entries: &[(M::Key, M::Val)],
+    blank: Blank,
+) -> Result<Tree<M>, NoMemory>
+    requires increasing { IsIncreasing M.Key.cmp entries.now }
+    requires fits { length entries.now < 2 ^ 60 }
+    requires name { blank.name ≡ C.name }
+    requires parts { blank.parts ≡ C.parts }
+    requires some { 0 < blank.parts }
+    ensures { IfOk result (λ tree. tree.entries ≡ entries.now) }
+{
+    let mut steps = Steps::<C>::start(blank);
+    Tree::from_increasing(alloc, entries, &mut steps)
+}
