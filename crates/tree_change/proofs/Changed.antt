@@ -1,0 +1,42 @@
+-- A node made anew over changed sides.
+use Rattle.std.proofs.Common.{◌≡◌, ℕ, zero, suc, ◌+◌, ◌^◌, ◌<◌, ◌≤◌, List, [], ◌∷◌, ◌++◌, length, take, drop, refl, sym, subst, arith}
+use Rattle.std.specs.Prelude.{Result, Ok, Err, IfOk, OnErr}
+use Rattle.std.specs.declared.cmp.Ordering.{Ordering}
+use Rattle.map_model.specs.Balance.{FillsNode, IsBalanced, IsBlockSize, weight}
+use Rattle.map_model.specs.Contents.{Contents}
+use Rattle.map_model.specs.Entries.{IsIncreasing}
+use Rattle.tree_shape.specs.Shape.{IsNode}
+use Rattle.tree_shape.specs.declared.tree.Node.{Node}
+use Rattle.tree_shape.proofs.Nodes.{is_node}
+use Rattle.tree_change.specs.Refreshed.{IsRefreshed}
+
+-- what holds after success and after a refusal
+pub by_outcome : {A B E F G H P : Type 0} (r : Result A B) → IfOk r (λ _. E) → IfOk r (λ _. F) → OnErr r G → OnErr r H → (E → F → P) → (G → H → P) → P
+by_outcome (Ok _) e f g h done refused = done e f
+by_outcome (Err _) e f g h done refused = refused g h
+
+-- what is left of one entry without it
+pub nothing_left : {E : Type 0} (es : List E) (at : ℕ) → at < length es → length es ≤ 1 → take at es ++ drop (at + 1) es ≡ []
+nothing_left [] at h few = absurd (omega (arith, h))
+nothing_left (e ∷ []) zero h few = refl
+nothing_left (e ∷ []) (suc at) h few = absurd (omega (arith, h))
+nothing_left (e ∷ f ∷ es) at h few = absurd (omega (arith, few))
+
+module _ {M K V X A L : Type 0} (order : K → K → Ordering) (base : K → V → X) (unit : X) (combine : X → X → X) (block : ℕ) where
+  -- a lawful node of these entries
+  pub record IsNodeOf (entries : List (K × V)) (node : Node M K V X A L) : Type 0 where
+    pub shape : IsNode order base unit combine block node.left node.key node.val node.right node.fold node.size node.height
+    pub entries_are : node.left.entries ++ (node.key, node.val) ∷ node.right.entries ≡ entries
+
+  pub changed : (left : Contents K V) (key : K) (val : V) (right : Contents K V) (node : Node M K V X A L) (entries : List (K × V))
+      → IsBlockSize block → IsRefreshed base unit combine block left key val right node
+      → left.entries ++ (key, val) ∷ right.entries ≡ entries → IsIncreasing order entries
+      → IsBalanced (weight left.entries) (weight right.entries) → FillsNode block (length left.entries) (length right.entries) → length left.entries + length right.entries + 1 < 2 ^ 60
+      → IsNodeOf entries node
+  changed left key val right node entries lawful new is rises balanced filled fits =
+      record {
+        shape = rw (new.left_is, new.key_is, new.val_is, new.right_is)
+            (is_node order base unit combine block left key val right node.fold node.size node.height lawful (subst (IsIncreasing order) (sym is) rises)
+            new.fold_is new.size_is (omega (arith, new.size_is, fits)) new.height_is balanced filled new.left_law new.right_law);
+        entries_are = rw (new.left_is, new.key_is, new.val_is, new.right_is) is;
+      }

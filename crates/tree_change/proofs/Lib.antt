@@ -1,0 +1,6 @@
+mod Costs
+mod Owned
+mod Sides
+mod Changed
+mod PutNodes
+mod DelNodes

@@ -1,0 +1,18 @@
+-- A node over given sides, with what it stores about them.
+use Rattle.std.specs.Prelude.{◌≡◌, ℕ, ◌+◌, max, ◌∷◌, ◌++◌, length}
+use Rattle.map_model.specs.Balance.{HeightLaw}
+use Rattle.map_model.specs.Contents.{Contents}
+use Rattle.map_model.specs.Fold.{fold_of}
+use Rattle.tree_shape.specs.declared.tree.Node.{Node}
+
+-- the node has these sides and this entry, and their fold, size and height
+pub record IsRefreshed {M K V X A L : Type 0} (base : K → V → X) (unit : X) (combine : X → X → X) (block : ℕ) (left : Contents K V) (key : K) (val : V) (right : Contents K V) (node : Node M K V X A L) : Type 0 where
+  pub left_is : node.left ≡ left
+  pub key_is : node.key ≡ key
+  pub val_is : node.val ≡ val
+  pub right_is : node.right ≡ right
+  pub fold_is : node.fold ≡ fold_of base unit combine (left.entries ++ (key, val) ∷ right.entries)
+  pub size_is : node.size ≡ length left.entries + length right.entries + 1
+  pub height_is : node.height ≡ max left.height right.height + 1
+  pub left_law : HeightLaw block left.height (length left.entries)
+  pub right_law : HeightLaw block right.height (length right.entries)

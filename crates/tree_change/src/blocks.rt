@@ -1,0 +1,83 @@
+//! Changes in place of a block that has one owner.
+ghost use Rattle.std.specs.Prelude.{◌≡◌, ◌+◌, ◌<◌, ◌≤◌, ◌↔◌, ◌++◌, IfOk, OnErr, IsSome, IsTrue, length, take, drop};
+ghost use Rattle.map_model.specs.Entries.{IsIncreasing, below, lookup, set};
+ghost use Rattle.map_model.specs.Fold.{fold_of};
+
+use crate::shape_mut::ShapeMut;
+use aug_monoid::{Key, LeafMut, NoMemory, Seek, Share, Steps};
+use std::alloc::Global;
+use std::sync::ledger::Ledger;
+use tree_shape::{Block, fold_leaf};
+
+/// Sets a key of a leaf to a value at its place.
+fn put_at_place<K: Key, V: Share, L: LeafMut<K, V>>(
+    alloc: Global,
+    leaf: &mut L,
+    place: Seek,
+    key: K,
+    val: V,
+) -> Result<(), NoMemory>
+    requires increasing { IsIncreasing K.cmp (L.entries leaf.old) }
+    requires short { length (L.entries leaf.old) ≤ 256 }
+    requires at { place.at ≡ length (below K.cmp (L.entries leaf.old) key) }
+    requires hit { IsTrue place.hit ↔ IsSome (lookup K.cmp (L.entries leaf.old) key) }
+    ensures entries { IfOk result (λ _. L.entries leaf.new ≡ set K.cmp (L.entries leaf.old) key val) }
+    ensures kept { OnErr result (L.entries leaf.new ≡ L.entries leaf.old) }
+{
+    if place.hit {
+        leaf.set_at(alloc, place.at, key, val)
+    } else {
+        leaf.insert_at(alloc, place.at, key, val)
+    }
+}
+
+/// Sets a key of a block to a value at its place, and makes the fold anew.
+pub(crate) fn put_in_own_block<M: ShapeMut, C: Ledger>(
+    alloc: Global,
+    block: &mut Block<M>,
+    place: Seek,
+    key: M::Key,
+    val: M::Val,
+    steps: &mut Steps<C>,
+) -> Result<(), NoMemory>
+    requires total { M.Augment.never_refuses }
+    requires increasing { IsIncreasing M.Key.cmp (M.Leaf.entries block.old.leaf) }
+    requires short { length (M.Leaf.entries block.old.leaf) ≤ 256 }
+    requires at { place.at ≡ length (below M.Key.cmp (M.Leaf.entries block.old.leaf) key) }
+    requires hit { IsTrue place.hit ↔ IsSome (lookup M.Key.cmp (M.Leaf.entries block.old.leaf) key) }
+    ensures entries { IfOk result (λ _. M.Leaf.entries block.new.leaf ≡ set M.Key.cmp (M.Leaf.entries block.old.leaf) key val) }
+    ensures fold { IfOk result (λ _. block.new.fold ≡ fold_of M.Augment.base_of M.Augment.unit_of M.Augment.combined (M.Leaf.entries block.new.leaf)) }
+    ensures kept { OnErr result (M.Leaf.entries block.new.leaf ≡ M.Leaf.entries block.old.leaf) }
+    ensures kept_fold { OnErr result (block.new.fold ≡ block.old.fold) }
+    ensures cost { steps.new ≤ steps.old + (length (M.Leaf.entries block.old.leaf) + 1) }
+{
+    put_at_place(alloc, &mut block.leaf, place, key, val)?;
+    let Ok(fold) = fold_leaf::<M::Augment, M::Leaf, C>(alloc, &block.leaf, steps) else {
+        unreachable!()
+    };
+    block.fold = fold;
+    Ok(())
+}
+
+/// Removes the entry at a place from a block, and makes the fold anew.
+pub(crate) fn remove_in_own_block<M: ShapeMut, C: Ledger>(
+    alloc: Global,
+    block: &mut Block<M>,
+    at: u64,
+    steps: &mut Steps<C>,
+) -> Result<(), NoMemory>
+    requires total { M.Augment.never_refuses }
+    requires inside { at < length (M.Leaf.entries block.old.leaf) }
+    ensures entries { IfOk result (λ _. M.Leaf.entries block.new.leaf ≡ take at (M.Leaf.entries block.old.leaf) ++ drop (at + 1) (M.Leaf.entries block.old.leaf)) }
+    ensures fold { IfOk result (λ _. block.new.fold ≡ fold_of M.Augment.base_of M.Augment.unit_of M.Augment.combined (M.Leaf.entries block.new.leaf)) }
+    ensures kept { OnErr result (M.Leaf.entries block.new.leaf ≡ M.Leaf.entries block.old.leaf) }
+    ensures kept_fold { OnErr result (block.new.fold ≡ block.old.fold) }
+    ensures cost { steps.new ≤ steps.old + length (M.Leaf.entries block.old.leaf) }
+{
+    block.leaf.remove_at(alloc, at)?;
+    let Ok(fold) = fold_leaf::<M::Augment, M::Leaf, C>(alloc, &block.leaf, steps) else {
+        unreachable!()
+    };
+    block.fold = fold;
+    Ok(())
+}
