@@ -108,8 +108,8 @@ uint8_t pam_map_split(pam_map *map, uint64_t key, pam_map *below, pam_map *from)
 /* The entries with keys from `lo` to `hi`, both included, in O(log n). 0, 4, 7 */
 uint8_t pam_map_range(pam_map *map, uint64_t lo, uint64_t hi, pam_map *out);
 
-/* Writes the first entries with keys at least `from_key`, as many as there are and fit, and how many these are, in O(log n) for
- * each. 0, 4 */
+/* Writes the first entries with keys at least `from_key`, as many as there are and fit, and how many these are, in O(log n + k)
+ * for k of them; where memory is refused, in O(log n) for each. 0, 4 */
 uint8_t pam_map_fill(pam_map *map, uint64_t from_key, uint64_t *keys, size_t keys_len, uint64_t *vals, size_t vals_len, size_t *count);
 /* Opens a closed handle with the map of n pairs, in O(n log n); a later pair of a key wins. 0, 4, 7 */
 uint8_t pam_map_build(pam_map *map, const uint64_t *keys, size_t keys_len, const uint64_t *vals, size_t vals_len);

@@ -205,7 +205,7 @@ impl Map {
         fold
     }
 
-    /// The entries in the order of keys, from either end. O(log n) for each.
+    /// The entries in the order of keys, from either end, fetched in chunks: O(log n) for a chunk, and O(1) for each entry.
     pub fn iter(&self) -> Iter<'_> {
         Iter { map: self, walk: Walk::over(0, self.0.len()) }
     }

@@ -167,3 +167,54 @@ fn arrays(rt: HostRuntime) {
     assert_eq!(rt; map_handle::del_many(alloc, &mut map, &[1, 2, 5]), OK);
     assert_map(&rt, alloc, &mut map, &[3, 4], &[30, 40]);
 }
+
+/// A handle with the map of 0, 2, .. 998 to the same numbers and one more.
+fn even<R: Abort>(rt: &R, alloc: Global) -> Handle {
+    let mut map = closed(alloc);
+    assert_eq!(rt; map_handle::new(alloc, &mut map), OK);
+    for half in 0..500u64 {
+        let key = 2 * half;
+        assert_eq!(rt; map_handle::put(alloc, &mut map, key, key + 1), OK);
+    }
+    map
+}
+
+/// Asserts what an array of so many is filled with from a key on: the first key, and how many.
+fn assert_filled<R: Abort>(
+    rt: &R,
+    alloc: Global,
+    map: &mut Handle,
+    from_key: u64,
+    room: usize,
+    first: u64,
+    wanted: usize,
+) {
+    let mut keys = Vec::new(alloc);
+    keys.resize(room, 7).expect(rt, "memory");
+    let mut vals = Vec::new(alloc);
+    vals.resize(room, 7).expect(rt, "memory");
+    let mut count = 0;
+    assert_eq!(rt;
+        map_handle::fill(alloc, map, from_key, &mut keys, &mut vals, &mut count),
+        OK
+    );
+    assert_eq!(rt; count, wanted);
+    let mut key = first;
+    for (found, val) in keys.iter().zip(vals.iter()).take(wanted) {
+        assert_eq!(rt; (*found, *val), (key, key.saturating_add(1)));
+        key = key.saturating_add(2);
+    }
+    assert!(rt; keys.iter().skip(wanted).all(|key| *key == 7));
+}
+
+#[test]
+fn arrays_are_filled_from_a_key_on(rt: HostRuntime) {
+    let alloc = rt.alloc();
+    let mut map = even(&rt, alloc);
+    assert_filled(&rt, alloc, &mut map, 301, 63, 302, 63);
+    assert_filled(&rt, alloc, &mut map, 301, 64, 302, 64);
+    assert_filled(&rt, alloc, &mut map, 0, 600, 0, 500);
+    assert_filled(&rt, alloc, &mut map, 900, 100, 900, 50);
+    assert_filled(&rt, alloc, &mut map, 999, 100, 0, 0);
+    assert_eq!(rt; map_handle::free(alloc, &mut map), OK);
+}

@@ -44,3 +44,12 @@ slice_get-drop (suc n) [] i = refl
 slice_get-drop (suc n) (x ∷ xs) i =
     let e : suc (n + i) ≡ suc n + i = omega arith in
     slice_get-drop n xs i ∙ ap (slice_get (x ∷ xs)) e
+
+-- what is left behind a place begins with the entry there
+pub behind : {X : Type 0} (found rest : List X) (i : ℕ) (e : X) → drop i found ≡ e ∷ rest → (slice_get found i ≡ Some e) × (rest ≡ drop (i + 1) found)
+behind found rest i e h =
+    let z : i + 0 ≡ i = omega arith in
+    let is : slice_get found i ≡ Some e = ap (slice_get found) (sym z) ∙ sym (slice_get-drop i found 0) ∙ ap (λ xs. slice_get xs 0) h in
+    let d : drop i found ≡ get_or found i e ∷ drop (suc i) found = drop-cons found i e (slice_get_within found i e is) in
+    let t : rest ≡ drop (suc i) found = cc in
+    (is, rw (add-one i) t)

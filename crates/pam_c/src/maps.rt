@@ -273,8 +273,8 @@ pub extern "C" fn pam_x_map_range(
     map_handle::range(alloc, map, lo, hi, out)
 }
 
-/// Writes the first entries with keys at least `from_key`, as many as there are and fit, and how many these are, in O(log n) for
-/// each of them.
+/// Writes the first entries with keys at least `from_key`, as many as there are and fit, and how many these are, in O(log n + k)
+/// for k of them; where memory is refused in O(log n) for each.
 #[unsafe(no_mangle)]
 pub extern "C" fn pam_x_map_fill(
     alloc: Global,
