@@ -3,7 +3,7 @@ use crate::graph::{list_reached, Graph};
 use bench_common::{begun, line, order_lines, run_round, Fields, Input, Shared};
 use std::sync::{Mutex, RwLock};
 
-enum Op {
+pub enum Op {
     Add(u64, u64),
     Cut(u64, u64),
 }
@@ -14,7 +14,8 @@ pub enum Query {
     Size,
 }
 
-fn op(word: &[u8], fields: &mut Fields) -> Op {
+/// The operation of a word, with the numbers behind it.
+pub fn op(word: &[u8], fields: &mut Fields) -> Op {
     let (from, to) = (fields.next_number(), fields.next_number());
     match word {
         b"add" => Op::Add(from, to),
@@ -22,7 +23,8 @@ fn op(word: &[u8], fields: &mut Fields) -> Op {
     }
 }
 
-fn query(word: &[u8], fields: &mut Fields) -> Query {
+/// The query of a word, with the numbers behind it.
+pub fn query(word: &[u8], fields: &mut Fields) -> Query {
     match word {
         b"degree" => Query::Degree(fields.next_number()),
         b"bfs" => Query::Bfs(fields.next_number()),
@@ -44,25 +46,44 @@ pub enum Found {
     Size([u64; 2]),
 }
 
+pub fn apply(graph: &mut Graph, op: &Op) {
+    match *op {
+        Op::Add(from, to) => graph.add(from, to),
+        Op::Cut(from, to) => graph.cut(from, to),
+    }
+}
+
+pub fn find(graph: &Graph, query: &Query) -> Found {
+    match *query {
+        Query::Degree(vertex) => Found::Degree(graph.degree(vertex)),
+        Query::Bfs(from) => Found::Reached(graph.reached(from)),
+        Query::Size => Found::Size(graph.size()),
+    }
+}
+
+/// Writes the answer to a query, as a line.
+pub fn answer(out: &mut Vec<u8>, found: Found) {
+    match found {
+        Found::Degree(degree) => line(out, "degree", [degree]),
+        Found::Reached(found) => list_reached(out, found),
+        Found::Size(size) => line(out, "graph", size),
+    }
+}
+
+/// Writes the last line of a text.
+pub fn last_line(out: &mut Vec<u8>, graph: &Graph) {
+    line(out, "final", graph.size());
+}
+
 impl Served {
     fn change(&mut self, place: u64, ops: &[Op]) {
-        for op in ops {
-            match *op {
-                Op::Add(from, to) => self.graph.add(from, to),
-                Op::Cut(from, to) => self.graph.cut(from, to),
-            }
-        }
+        ops.iter().for_each(|op| apply(&mut self.graph, op));
         self.order.push(place);
     }
 
     /// How many batches there are so far, and what a query finds.
     fn look(&self, query: &Query) -> (usize, Found) {
-        let found = match *query {
-            Query::Degree(vertex) => Found::Degree(self.graph.degree(vertex)),
-            Query::Bfs(from) => Found::Reached(self.graph.reached(from)),
-            Query::Size => Found::Size(self.graph.size()),
-        };
-        (self.order.len(), found)
+        (self.order.len(), find(&self.graph, query))
     }
 }
 
@@ -107,11 +128,7 @@ impl<L: Lock> Shared<Op, Query> for Behind<L> {
     fn reply(&self, place: u64, query: &Query) -> Vec<u8> {
         let (number, found) = self.0.look(query);
         let mut out = begun(place, number);
-        match found {
-            Found::Degree(degree) => line(&mut out, "degree", [degree]),
-            Found::Reached(found) => list_reached(&mut out, found),
-            Found::Size(size) => line(&mut out, "graph", size),
-        }
+        answer(&mut out, found);
         out
     }
 }
@@ -126,6 +143,6 @@ pub fn run<L: Lock>(input: &[u8]) -> Vec<u8> {
     }
     let served = shared.0.into_served();
     order_lines(&mut out, &served.order);
-    line(&mut out, "final", served.graph.size());
+    last_line(&mut out, &served.graph);
     out
 }

@@ -2,18 +2,9 @@
 //!
 //! `program_baseline map` reads standard input whole, then all its lines, then runs them, and writes the replies at once, as
 //! `pam map` does. `program_baseline sample SIZE SEED` does what `pam --size SIZE --seed SEED sample` does. The words `interval scan`,
-//! `interval tree`, `points`, `index`, `graph`, `gserve mutex`, `gserve rwlock` and `check` run these tools, on lawful scripts alone.
-mod check;
-mod graph;
-mod gserve;
-mod index;
-mod intervals;
-mod points;
-mod registers;
-mod sample;
-mod script;
-
+//! `interval tree`, `points`, `index`, `graph`, `seq`, `gserve mutex`, `gserve rwlock` and `check` run these tools, on lawful scripts alone.
 use bench_common::{input, parsed, words};
+use program_baseline::{check, graph, gserve, index, intervals, points, registers, sample, script, seq};
 use std::io::{self, Write};
 use std::process::ExitCode;
 use std::sync::{Mutex, RwLock};
@@ -40,6 +31,7 @@ fn main() -> io::Result<ExitCode> {
         ["points"] => points::run(&input()),
         ["index"] => index::run(&input()),
         ["graph"] => graph::run(&input()),
+        ["seq"] => seq::run(&input()),
         ["gserve", "mutex"] => gserve::run::<Mutex<gserve::Served>>(&input()),
         ["gserve", "rwlock"] => gserve::run::<RwLock<gserve::Served>>(&input()),
         ["check"] => check::run(&input()),
