@@ -15,8 +15,8 @@ import measure
 OK, USAGE, BAD_RECORD, TOO_LARGE, READ_FAULT, WRITE_FAULT, NO_MEMORY = 0, 2, 3, 4, 5, 6, 7
 # What the dynamic loader ends with where the program cannot be loaded, and the kernel where it cannot be mapped.
 NOT_STARTED = {127, 126, -9, -11}
-# How a run ends that did not end in so many seconds; no signal has this number.
-HANG, SECONDS = -99, 60
+# How a run ends that did not end in so many seconds, or, of a large script, in so many more; no signal has this number.
+HANG, SECONDS, LONG = -99, 60, 900
 TOOLS = [*inputs.MAKERS, "check", "sample"]
 
 # What a run that `timeout` stopped ends with; and the bytes that are read at a time of what a measured run writes.
@@ -104,7 +104,7 @@ def large(program, size, tools=TOOLS):
             words, script = ["--size", str(max(1, min(size // 10, 1_000_000))), tool], b""
         else:
             words, script = [tool], b"".join(inputs.script("serve" if tool == "check" else tool, size))
-        text = run([program, "--workers", "1", *words[:-1], "serve" if tool == "check" else tool], input=script).text
+        text = run([program, "--workers", "1", *words[:-1], "serve" if tool == "check" else tool], seconds=LONG, input=script).text
         both = (script + b"run\n" + text, b"yes\n") if tool == "check" else (script, text)
         yield Example(f"large {tool}", words, *both)
 
