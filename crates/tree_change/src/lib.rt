@@ -7,7 +7,7 @@
 //! It stands on `tree_entry`, `tree_shape` and `balance`; a `ShapeMut` is a shape whose leaves are changed in place. `tree_changes`
 //! has these calls over three parameters, and goes when the crates above it have moved here.
 //!
-//! Tests: none yet; those of `tree_tests` and `work_tests` move here. Wrong bodies: none yet; those of `tree_changes` move here.
+//! Tests: `shape_tests`. Wrong bodies: none yet; those of `tree_changes` move here.
 #![tactic(auto)]
 
 mod blocks;

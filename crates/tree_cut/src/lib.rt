@@ -6,7 +6,7 @@
 //! It stands on `tree_join` and `tree_shape`. `tree_split` has these calls over three parameters, and goes when the crates above
 //! it have moved here.
 //!
-//! Tests: none yet; those of `tree_tests` move here. Wrong bodies: none here; `aug_map` will state these clauses again.
+//! Tests: `shape_tests`. Wrong bodies: none here; `aug_map` will state these clauses again.
 #![tactic(auto)]
 
 mod exposing;

@@ -7,7 +7,7 @@
 //! It stands on `tree_shape` and `balance`. `join_core` has these calls over three parameters, and goes when the crates above it
 //! have moved here.
 //!
-//! Tests: none yet; those of `tree_tests` move here. Wrong bodies: none here; the crates above state these clauses again.
+//! Tests: `shape_tests`. Wrong bodies: none here; the crates above state these clauses again.
 #![tactic(auto)]
 
 mod ends;

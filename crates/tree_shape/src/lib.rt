@@ -11,7 +11,7 @@
 //! It stands on `aug_monoid`, `balance` and `map_model`. `tree_base` has these trees over three parameters, and goes when the crates
 //! above it have moved here.
 //!
-//! Tests: none yet; those of `tree_tests` move here. Wrong bodies: none here; the crates above state these clauses again.
+//! Tests: `shape_tests`. Wrong bodies: none here; the crates above state these clauses again.
 #![tactic(auto)]
 
 mod build;
