@@ -1,0 +1,35 @@
+-- The steps that the fold of a range takes at a node.
+use Rattle.std.proofs.Common.{◌≡◌, ℕ, ◌+◌, ◌*◌, ◌<◌, ◌≤◌, false, arith}
+use Rattle.std.proofs.lemmas.Bool.{true≢false}
+use Rattle.tree_query.specs.declared.range.KeyRange.{KeyRange}
+use Rattle.tree_query.specs.declared.range.KeyRange.TheVariants.{All, AtMost, AtLeast, Between, Below, Above}
+use Rattle.tree_query.specs.Within.{is_all, left_part, right_part, fold_cost}
+
+module _ {K : Type 0} (block side height : ℕ) (lower : side < height) where
+  -- the range ends before the node's key, or begins after it
+  pub cost_aside : (range : KeyRange K) → is_all range ≡ false → fold_cost range side block + 2 ≤ fold_cost range height block
+  cost_aside All some = absurd (true≢false some)
+  cost_aside (AtMost hi) some = omega arith
+  cost_aside (AtLeast lo) some = omega arith
+  cost_aside (Between lo hi) some = omega arith
+  cost_aside (Below hi) some = omega arith
+  cost_aside (Above lo) some = omega arith
+
+module _ {K : Type 0} (block left right height : ℕ) (left_lower : left < height) (right_lower : right < height) where
+  -- the key lies in the range
+  pub cost_inside : (range : KeyRange K) → is_all range ≡ false → fold_cost (left_part range) left block + fold_cost (right_part range) right block + 4 ≤ fold_cost range height block
+  cost_inside All some = absurd (true≢false some)
+  cost_inside (AtMost hi) some = omega arith
+  cost_inside (AtLeast lo) some = omega arith
+  cost_inside (Between lo hi) some = omega arith
+  cost_inside (Below hi) some = omega arith
+  cost_inside (Above lo) some = omega arith
+
+-- a block that the range does not have whole
+pub cost_block : {K : Type 0} (block count height : ℕ) → count ≤ 2 * block → (range : KeyRange K) → is_all range ≡ false → 3 * count ≤ fold_cost range height block
+cost_block block count height short All some = absurd (true≢false some)
+cost_block block count height short (AtMost hi) some = omega arith
+cost_block block count height short (AtLeast lo) some = omega arith
+cost_block block count height short (Between lo hi) some = omega arith
+cost_block block count height short (Below hi) some = omega arith
+cost_block block count height short (Above lo) some = omega arith

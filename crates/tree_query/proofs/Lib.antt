@@ -1,0 +1,7 @@
+pub mod Blocks
+pub mod Costs
+pub mod Firsts
+pub mod Nodes
+pub mod Ranges
+pub mod Sides
+pub mod Walks

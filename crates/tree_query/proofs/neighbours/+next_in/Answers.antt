@@ -1,0 +1,47 @@
+use Rattle.std.proofs.Common.{Some, sym, ap, ◌∙◌, ◌<◌, length, rules, refl}
+use Rattle.std.specs.Option.{option_or}
+use Rattle.std.proofs.lemmas.Result.{IfOk-weaker}
+use Rattle.map_model.specs.Parts.{next}
+use Rattle.map_model.proofs.Ranges.{next-around_less, next-around_equal, next-around_greater}
+use Rattle.tree_query.proofs.Sides.{left_shorter, right_shorter}
+use Rattle.tree_query.proofs.neighbours.+next_in.Goals as goal
+
+pub returns-in-Some-clause-value : goal.returns-in-Some-clause-value
+returns-in-Some-clause-value g t c =
+    let node = c.in-Node.ensures.top in
+    let e : g.row.M-Key.Denot × g.row.M-Val.Denot = (c.in-Node.middle.now, c.in-Node.val.now) in
+    let law = ap (λ m. next g.M.Key.Ord.cmp m c.args.key.now) node.entries_are ∙ next-around_less g.met.M.Key.Ord.total c.in-Node.left.now.entries c.in-Node.middle.now c.in-Node.val.now c.in-Node.right.now.entries c.args.key.now node.increasing (sym c.in-Less.ensures.value) in
+    sym (law ∙ ap (λ o. option_or o (Some e)) (sym c.in_ok-entry-in-Less.ensures.value ∙ c.in-Some.is))
+
+pub returns-in_ok-share_entry-in-None-clause-value : goal.returns-in_ok-share_entry-in-None-clause-value
+returns-in_ok-share_entry-in-None-clause-value g t c =
+    let node = c.in-Node.ensures.top in
+    let e : g.row.M-Key.Denot × g.row.M-Val.Denot = (c.in-Node.middle.now, c.in-Node.val.now) in
+    let law = ap (λ m. next g.M.Key.Ord.cmp m c.args.key.now) node.entries_are ∙ next-around_less g.met.M.Key.Ord.total c.in-Node.left.now.entries c.in-Node.middle.now c.in-Node.val.now c.in-Node.right.now.entries c.args.key.now node.increasing (sym c.in-Less.ensures.value) in
+    ap Some c.in_ok-share_entry-in-None.ensures.value ∙ sym (law ∙ ap (λ o. option_or o (Some e)) (sym c.in_ok-entry-in-Less.ensures.value ∙ c.in-None.is))
+
+pub returns-in-Equal-clause-value : goal.returns-in-Equal-clause-value
+returns-in-Equal-clause-value g t c =
+    let node = c.in-Node.ensures.top in
+    IfOk-weaker c.select.result _ _ (λ x h. h ∙ sym (ap (λ m. next g.M.Key.Ord.cmp m c.args.key.now) node.entries_are ∙ next-around_equal g.met.M.Key.Ord.total c.in-Node.left.now.entries c.in-Node.middle.now c.in-Node.val.now c.in-Node.right.now.entries c.args.key.now node.increasing (sym c.in-Equal.ensures.value))) c.select.ensures.value
+
+pub returns-in-Greater-clause-value : goal.returns-in-Greater-clause-value
+returns-in-Greater-clause-value g t c =
+    let node = c.in-Node.ensures.top in
+    IfOk-weaker c.next_in-in-Greater.result _ _ (λ x h. h ∙ sym (ap (λ m. next g.M.Key.Ord.cmp m c.args.key.now) node.entries_are ∙ next-around_greater g.met.M.Key.Ord.total c.in-Node.left.now.entries c.in-Node.middle.now c.in-Node.val.now c.in-Node.right.now.entries c.args.key.now node.increasing (sym c.in-Greater.ensures.value))) c.next_in-in-Greater.ensures.value
+
+pub next_in-requires : goal.next_in-requires
+next_in-requires g t c κs within =
+    let shorter : length c.in-Node.left.now.entries < length c.args.part.tree.now.entries = left_shorter _ _ _ _ c.in-Node.ensures.top.entries_are in
+    search rules
+
+pub next_in-requires-in-Greater : goal.next_in-requires-in-Greater
+next_in-requires-in-Greater g t c κs within =
+    let shorter : length c.in-Node.right.now.entries < length c.args.part.tree.now.entries = right_shorter _ _ _ _ c.in-Node.ensures.top.entries_are in
+    search rules
+
+pub returns-in-Empty-clause-value : goal.returns-in-Empty-clause-value
+returns-in-Empty-clause-value g t c = rw c.in-Empty.ensures.top refl
+
+pub returns-in-Block-clause-value : goal.returns-in-Block-clause-value
+returns-in-Block-clause-value g t c = rw c.in-Block.ensures.top.entries_are c.next_in_block.ensures.value

@@ -1,0 +1,4 @@
+use Rattle.tree_query.proofs.parts.slice.Given as goal
+
+abbrev pub ghosts-keep : goal.ghosts-keep
+ghosts-keep g a = record { name = a.blank.name; parts = a.blank.parts }

@@ -1,0 +1,46 @@
+use Rattle.std.proofs.Common.{rules, ◌≡◌, Some, sym, ap, ◌∙◌, None, arith}
+use Rattle.std.specs.List.{slice_get}
+use Rattle.std.specs.Option.{option_map}
+use Rattle.aug_monoid.specs.Lending.{entry_of}
+use Rattle.map_model.specs.Fold.{fold_of}
+use Rattle.std.proofs.lemmas.List.{take_all}
+use Rattle.tree_query.specs.Within.{within}
+use Rattle.tree_query.proofs.Walks.{image_more, within_same, within_ended, none_past}
+use Rattle.tree_query.proofs.project.project_block.Goals as goal
+
+pub returns-then-ends_before : goal.returns-then-ends_before
+returns-then-ends_before g c =
+    let augment = g.A.Augment in
+    let entries = g.L.Leaf.entries c.args.leaf.now in
+    let entry : slice_get entries c.loop-at._at ≡ Some (entry_of c.in-Some.entry) = sym (rw c.loop-at.invariant.1 at c.walk_next.ensures.value) ∙ ap (option_map entry_of) c.in-Some.is in
+    c.loop-at.invariant.0 ∙ ap (λ m. g.P.Project.image_of c.args.how.now (fold_of augment.base_of augment.unit_of augment.combined m)) (sym (within_ended g.met.A.Key.Ord.total c.args.range.now entries c.loop-at._at (entry_of c.in-Some.entry).0 (entry_of c.in-Some.entry).1 entry c.requires (sym (rw c.key-key.ensures at c.ends_before.ensures.value) ∙ c.if-ends_before.true)))
+
+pub loop-at-preserved-then-begins_after : goal.loop-at-preserved-then-begins_after
+loop-at-preserved-then-begins_after g c =
+    let augment = g.A.Augment in
+    let entries = g.L.Leaf.entries c.args.leaf.now in
+    let entry : slice_get entries c.loop-at._at ≡ Some (entry_of c.in-Some.entry) = sym (rw c.loop-at.invariant.1 at c.walk_next.ensures.value) ∙ ap (option_map entry_of) c.in-Some.is in
+    let same = within_same g.met.A.Key.Ord.total c.args.range.now entries c.loop-at._at (entry_of c.in-Some.entry).0 (entry_of c.in-Some.entry).1 entry c.requires (sym (rw c.key-key.ensures at c.begins_after.ensures.value) ∙ c.if-begins_after.true) in
+    (c.loop-at.invariant.0 ∙ ap (λ m. g.P.Project.image_of c.args.how.now (fold_of augment.base_of augment.unit_of augment.combined m)) (sym same), search rules, search rules)
+
+pub loop-at-preserved : goal.loop-at-preserved
+loop-at-preserved g c =
+    let law = g.met.A.Augment in
+    let augment = g.A.Augment in
+    let entries = g.L.Leaf.entries c.args.leaf.now in
+    let entry : slice_get entries c.loop-at._at ≡ Some (entry_of c.in-Some.entry) = sym (rw c.loop-at.invariant.1 at c.walk_next.ensures.value) ∙ ap (option_map entry_of) c.in-Some.is in
+    let more = image_more g.met.A.Key.Ord.total c.args.range.now entries c.loop-at._at (entry_of c.in-Some.entry).0 (entry_of c.in-Some.entry).1 entry law.monoid law.base_fits (g.P.Project.image_of c.args.how.now) (g.P.Project.combined c.args.how.now) (g.met.P.Project.projection c.args.how.now) c.requires (sym (rw c.key-key.ensures at c.ends_before.ensures.value) ∙ c.if-ends_before.false) (sym (rw c.key-key.ensures at c.begins_after.ensures.value) ∙ c.if-begins_after.false) in
+    (c.in_ok-out-2.ensures ∙ rw (c.loop-at.invariant.0, rw (c.key-key.ensures, c.val.ensures) at c.in_ok-image.ensures) (sym more), search rules, search rules)
+
+pub unreachable-requires : goal.unreachable-requires
+unreachable-requires g c =
+    let entries = g.L.Leaf.entries c.args.leaf.now in
+    let none : slice_get entries c.loop-at._at ≡ None = sym (rw c.loop-at.invariant.1 at c.walk_next.ensures.value) ∙ ap (option_map entry_of) c.in_default.is in
+    omega (arith, none_past entries c.loop-at._at none, c.loop-at-test.true, c.len-at-end.ensures.value)
+
+pub returns : goal.returns
+returns g c =
+    let augment = g.A.Augment in
+    let entries = g.L.Leaf.entries c.args.leaf.now in
+    let whole = take_all c.loop-at._at entries (omega (arith, c.loop-at-test.false, c.len-at-end.ensures.value)) in
+    c.loop-at.invariant.0 ∙ ap (λ m. g.P.Project.image_of c.args.how.now (fold_of augment.base_of augment.unit_of augment.combined (within g.A.Key.Ord.cmp c.args.range.now m))) whole

@@ -1,0 +1,29 @@
+//! Questions to augmented maps: folds of ranges of keys, places of keys, neighbours, and parts.
+//!
+//! A fold of a range takes the stored folds of the trees that lie in it whole, so its cost goes with the height of the tree
+//! and the size of a block, and not with the number of entries in the range.
+//!
+//! It stands on `tree_join` and `tree_shape`. `aug_query` has these calls over three parameters, and goes when the crates above it
+//! have moved here.
+//!
+//! Tests: none yet; those of `map_tests` and `work_tests` move here. Wrong bodies: none here; `aug_map` will state these clauses
+//! again.
+#![tactic(auto)]
+
+mod filter;
+mod finding;
+mod folds;
+mod neighbours;
+mod parts;
+mod passing;
+mod places;
+mod project;
+mod range;
+
+pub use filter::aug_filter;
+pub use finding::first_where;
+pub use folds::{aug_left, aug_range, aug_right};
+pub use neighbours::{next, prev};
+pub use parts::{above, at_least, below, slice};
+pub use places::{rank, select};
+pub use project::aug_project;
