@@ -7,8 +7,7 @@
 //! It stands on `tree_join` and `tree_shape`. `tree_making` has these calls over three parameters, and goes when the crates above
 //! it have moved here.
 //!
-//! Tests: `shape_tests`. Wrong bodies: none here; `bulk_ops` and `batch_ops` will prove theirs by
-//! these clauses.
+//! Tests: `shape_tests`. Wrong bodies: none here; `bulk_ops` and `batch_ops` will prove theirs by these clauses.
 #![tactic(auto)]
 
 mod joining;
