@@ -4,7 +4,7 @@ use std::io::{self, Read, Write};
 use std::path::PathBuf;
 use std::process::{Child, Command, ExitStatus, Stdio};
 use std::sync::{Mutex, MutexGuard};
-use std::time::{Duration, Instant};
+use std::time::Duration;
 use std::{fs, thread};
 
 /// How a run ended, and what it wrote.
@@ -37,9 +37,9 @@ pub enum Late {
 /// A run that has not ended yet.
 struct Running {
     child: Child,
-    start: Instant,
-    /// When it was last seen to work.
-    worked: Instant,
+    /// How often it was looked at, and how often in a row it did not work then. The clock would go on where the machine stands still.
+    looks: u32,
+    idle: u32,
     late: Option<Late>,
 }
 
@@ -63,17 +63,11 @@ fn works(process: u32) -> bool {
 }
 
 impl Running {
-    fn new(child: Child) -> Running {
-        let start = Instant::now();
-        Running { child, start, worked: start, late: None }
-    }
-
     /// Kills it if it is late.
     fn look(&mut self, limit: Duration) {
-        if self.start.elapsed() > LOOK && works(self.child.id()) {
-            self.worked = Instant::now();
-        }
-        self.late = match (self.worked.elapsed() > limit, self.start.elapsed() > limit.saturating_mul(MANY)) {
+        self.looks += 1;
+        self.idle = if works(self.child.id()) { 0 } else { self.idle + 1 };
+        self.late = match (LOOK * self.idle > limit, LOOK * self.looks > limit.saturating_mul(MANY)) {
             (true, _) => Some(Late::Waits),
             (_, true) => Some(Late::Works),
             _ => return,
@@ -98,7 +92,7 @@ impl Program {
         command.args(words).stdin(Stdio::piped()).stdout(Stdio::piped()).stderr(Stdio::piped());
         let mut child = command.spawn()?;
         let pipes = (child.stdin.take(), child.stdout.take(), child.stderr.take());
-        *self.slot(job) = Some(Running::new(child));
+        *self.slot(job) = Some(Running { child, looks: 0, idle: 0, late: None });
         let (Some(mut stdin), Some(mut stdout), Some(mut stderr)) = pipes else {
             unreachable!("all three are pipes");
         };
