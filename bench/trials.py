@@ -19,8 +19,8 @@ NOT_STARTED = {127, 126, -9, -11}
 HANG, SECONDS, LONG = -99, 60, 900
 TOOLS = [*inputs.MAKERS, "check", "sample"]
 
-# What a run that `timeout` stopped ends with; and the bytes that are read at a time of what a measured run writes.
-STOPPED, PIECE = 124, 2**20
+# What a run that `timeout` stopped ends with, and one that it had to kill; and the bytes that are read at a time of what a run writes.
+STOPPED, KILLED, PIECE = 124, 137, 2**20
 
 # What a run ended with, what it wrote, and what it wrote to standard error.
 Run = collections.namedtuple("Run", "status text told")
@@ -82,8 +82,9 @@ def measured(words, path, seconds, space, text=None):
             for piece in iter(lambda: child.stdout.read(PIECE), b""):
                 written += text.write(piece) if text else len(piece)
         elapsed = time.monotonic() - start
+        status = STOPPED if child.returncode == KILLED and elapsed > seconds else child.returncode
         peak, *processor = used.read().split()
-        return Measured(child.returncode, elapsed, sum(map(float, processor)), int(peak) * 1024, written, told.tell())
+        return Measured(status, elapsed, sum(map(float, processor)), int(peak) * 1024, written, told.tell())
 
 
 def stored():
