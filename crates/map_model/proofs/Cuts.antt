@@ -12,7 +12,7 @@ use Rattle.map_model.specs.Order.{IsExact}
 use Rattle.map_model.proofs.Keys.{AllKeys-append, AllKeys-front, AllKeys-back}
 use Rattle.map_model.proofs.Lengths.{length-filter_le, length-set, length-drop_key}
 use Rattle.map_model.proofs.Ranges.{slice_get-around_at}
-use Rattle.map_model.proofs.Splits.{split_found, split_absent, drop_key-split, IsIncreasing-drop_key}
+use Rattle.map_model.proofs.Splits.{split_found, split_absent}
 
 pub length-around : {E : Type 0} (l : List E) (e : E) (r : List E) → length (l ++ e ∷ r) ≡ length l + length r + 1
 length-around l e r = omega (arith, length-append l (e ∷ r))
@@ -114,10 +114,6 @@ module _ {K V : Type 0} {order : K → K → Ordering} (total : IsTotalOrder ord
   lookup_at_place present =
       let found = has_value (lookup order m q) present in
       found.1 ∙ sym (ap (option_map (λ (e : K × V). e.1)) (ap (λ x. slice_get x (length (below order m q))) (split_found total exact m q found.0 s found.1) ∙ slice_get-around_at (q, found.0) (above order m q) (below order m q)))
-
-  -- what a list has without a key rises
-  pub closed_rises : IsIncreasing order (below order m q ++ above order m q)
-  closed_rises = subst (IsIncreasing order) (drop_key-split total exact m q s) (IsIncreasing-drop_key order m q s)
 
   pub set_sizes : (v : V) → (length m ≤ length (set order m q v)) × (length (set order m q v) ≤ length m + 1)
   set_sizes v = one_more (is_some (lookup order m q)) (length m) (length (set order m q v)) (length-set total exact m q v s)

@@ -11,7 +11,7 @@ use Rattle.std.proofs.lemmas.List.{length-take-le}
 use Rattle.std.proofs.lemmas.List.Elements.{filter-append}
 use Rattle.map_model.specs.Entries.{AllAbove, AllBelow, AllKeys, IsIncreasing, below, lookup}
 use Rattle.map_model.proofs.Filters.{filter-all_keys, filter-no_keys}
-use Rattle.map_model.proofs.Keys.{AllKeys-map, below_all, greater, lesser}
+use Rattle.map_model.proofs.Keys.{AllKeys-map, below_all, greater}
 use Rattle.map_model.proofs.Lookups.{lookup-append, lookup-all_less, lookup-all_greater}
 
 AllKeys-at : {K V : Type 0} (P : K → Type 0) (es : List (K × V)) (i : ℕ) (e : K × V) → i < length es → e ≡ get_or es i e → AllKeys P es → P e.0
@@ -34,14 +34,6 @@ module _ {K : Type 0} {order : K → K → Ordering} (total : IsTotalOrder order
         | Equal ↦ λ is _. sym (alike_right total e q x is) ∙ less
         | Greater ↦ λ _ h. absurd (false≢true h)
       ] refl le
-
-  pub not_le : (e : K) → is_le (order e q) ≡ false → order q e ≡ Less
-  not_le e above =
-      elim (order e q) as (λ o. order e q ≡ o → is_le o ≡ false → order q e ≡ Less) [
-        | Less ↦ λ _ h. absurd (false≢true (sym h))
-        | Equal ↦ λ _ h. absurd (false≢true (sym h))
-        | Greater ↦ λ is _. lesser total e q is
-      ] refl above
 
 module _ {K V : Type 0} {order : K → K → Ordering} (total : IsTotalOrder order) (q : K) where
   -- the keys before one that is not above q
