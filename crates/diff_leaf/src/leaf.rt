@@ -2,24 +2,22 @@
 ghost use Rattle.std.specs.Prelude.{◌≡◌, ◌≤◌, length, IfOk};
 ghost use Rattle.std.specs.Ordering.{nat_cmp};
 ghost use Rattle.map_model.specs.Entries.{IsIncreasing};
-ghost use Rattle.diff_leaf.specs.Code.{code};
+ghost use Rattle.gap_code.specs.Code.{code};
 
-use crate::build::{back, concat, encode, front, splice, without};
-use crate::gaps::{Gaps, entry_at, first_place, get_entry, seek_key};
-use crate::value_code::ValueCode;
+use crate::seek::seek_key;
 use aug_monoid::{Leaf, LeafMut, Lent, NoMemory, Seek, Steps, Walk};
+use gap_code::{Gaps, ValueCode};
 use std::alloc::Global;
-use std::marker::{Model, PhantomData};
+use std::marker::Model;
 use std::sync::ledger::Ledger;
 
 /// A block of number keys: for each entry the gap from the key before, in LEB128, and then the
-/// bytes of its value. `seek` and `get_at` walk over the bytes, in at most 256 comparisons of keys
-/// where there are at most 256 entries. A cut or a change copies runs of bytes, and codes only the
+/// bytes of its value. `seek` and `get_at` walk over the bytes, `seek` in at most 256 comparisons of
+/// keys where there are at most 256 entries. A cut or a change copies runs of bytes, and codes only the
 /// new entry and the key after it anew.
 #[derive(Drop)]
 pub struct DiffLeaf<V: ValueCode> {
-    gaps: Gaps,
-    values: PhantomData<V>,
+    gaps: Gaps<V>,
 }
 
 impl<V: ValueCode> Model for DiffLeaf<V> {
@@ -27,11 +25,26 @@ impl<V: ValueCode> Model for DiffLeaf<V> {
 
     ghost Value = { List (ℕ × V) };
 
-    ghost use Rattle.diff_leaf.specs.Stored.{entries_in, IsGaps};
+    ghost use Rattle.std.specs.Ordering.{nat_cmp};
+    ghost use Rattle.map_model.specs.Entries.{IsIncreasing};
 
-    ghost view = { λ l. entries_in V.bytes_of V.value_of l.gaps };
+    ghost view = { λ l. l.gaps };
 
-    ghost invariant = { λ l. IsGaps V.fits_bytes V.bytes_of V.value_of l.gaps };
+    ghost invariant = { λ l. IsIncreasing nat_cmp l.gaps };
+}
+
+/// The gap code of entries whose keys rise, in one pass.
+fn encode<V: ValueCode>(alloc: Global, from: &[(u64, V)]) -> Result<Gaps<V>, NoMemory>
+    requires increasing { IsIncreasing nat_cmp from.now }
+    requires short { length from.now ≤ 512 }
+    ensures { IfOk result (λ gaps. gaps ≡ from.now) }
+{
+    let mut gaps = Gaps::with_room(alloc, from.len().saturating_mul(4))?;
+    for entry in from {
+        gaps.push(entry.0, &entry.1)?;
+    }
+    gaps.shrink_to_fit();
+    Ok(gaps)
 }
 
 impl<V: ValueCode> DiffLeaf<V> {
@@ -39,12 +52,12 @@ impl<V: ValueCode> DiffLeaf<V> {
     pub fn code(&self) -> &[u8]
         ensures { result.now ≡ code V.bytes_of self.now }
     {
-        &self.gaps.code
+        self.gaps.code()
     }
 }
 
 impl<V: ValueCode> Leaf<u64, V> for DiffLeaf<V> {
-    ghost use Rattle.diff_leaf.specs.Stored.{IsPlaceOf};
+    ghost use Rattle.gap_code.specs.Code.{IsPlaceOf};
 
     const FIND: u64 = 256;
 
@@ -58,10 +71,7 @@ impl<V: ValueCode> Leaf<u64, V> for DiffLeaf<V> {
 
     fn from_entries(alloc: Global, from: &[(u64, V)]) -> Result<DiffLeaf<V>, NoMemory> {
         let gaps = encode::<V>(alloc, from)?;
-        Ok(DiffLeaf {
-            gaps,
-            values: PhantomData,
-        })
+        Ok(DiffLeaf { gaps })
     }
 
     fn from_owned(alloc: Global, from: Vec<(u64, V)>) -> Result<DiffLeaf<V>, NoMemory>
@@ -70,18 +80,15 @@ impl<V: ValueCode> Leaf<u64, V> for DiffLeaf<V> {
         ensures { IfOk result (λ leaf. leaf ≡ from.items) }
     {
         let gaps = encode::<V>(alloc, &from)?;
-        Ok(DiffLeaf {
-            gaps,
-            values: PhantomData,
-        })
+        Ok(DiffLeaf { gaps })
     }
 
     fn len(&self) -> u64 {
-        self.gaps.len
+        self.gaps.len()
     }
 
     fn get_at(&self, at: u64) -> Option<Lent<'_, u64, V>> {
-        match get_entry::<V>(&self.gaps, at) {
+        match self.gaps.get(at) {
             Some((key, val)) => Some(Lent::Decoded(key, val)),
             None => None,
         }
@@ -92,32 +99,26 @@ impl<V: ValueCode> Leaf<u64, V> for DiffLeaf<V> {
     }
 
     fn walk(&self) -> Walk {
-        first_place::<V>(&self.gaps)
+        self.gaps.first_place()
     }
 
     fn walk_next(&self, walk: &mut Walk) -> Option<Lent<'_, u64, V>> {
-        if walk.index >= self.gaps.len {
+        if walk.index >= self.gaps.len() {
             return None;
         }
-        let found = entry_at::<V>(&self.gaps, walk);
+        let found = self.gaps.entry_at(walk);
         *walk = found.next;
-        Some(Lent::Decoded(found.key, found.val))
+        Some(Lent::Decoded(found.number, found.val))
     }
 
     fn front(&self, alloc: Global, at: u64) -> Result<DiffLeaf<V>, NoMemory> {
-        let gaps = front::<V>(alloc, &self.gaps, at)?;
-        Ok(DiffLeaf {
-            gaps,
-            values: PhantomData,
-        })
+        let gaps = self.gaps.front(alloc, at)?;
+        Ok(DiffLeaf { gaps })
     }
 
     fn back(&self, alloc: Global, at: u64) -> Result<DiffLeaf<V>, NoMemory> {
-        let gaps = back::<V>(alloc, &self.gaps, at)?;
-        Ok(DiffLeaf {
-            gaps,
-            values: PhantomData,
-        })
+        let gaps = self.gaps.back(alloc, at)?;
+        Ok(DiffLeaf { gaps })
     }
 
     fn concat3(
@@ -127,11 +128,8 @@ impl<V: ValueCode> Leaf<u64, V> for DiffLeaf<V> {
         val: V,
         right: &DiffLeaf<V>,
     ) -> Result<DiffLeaf<V>, NoMemory> {
-        let gaps = concat::<V>(alloc, &self.gaps, key, &val, &right.gaps)?;
-        Ok(DiffLeaf {
-            gaps,
-            values: PhantomData,
-        })
+        let gaps = self.gaps.concat(alloc, key, &val, &right.gaps)?;
+        Ok(DiffLeaf { gaps })
     }
 
     fn splice(
@@ -142,19 +140,13 @@ impl<V: ValueCode> Leaf<u64, V> for DiffLeaf<V> {
         key: u64,
         val: V,
     ) -> Result<DiffLeaf<V>, NoMemory> {
-        let gaps = splice::<V>(alloc, &self.gaps, at, upto, key, &val)?;
-        Ok(DiffLeaf {
-            gaps,
-            values: PhantomData,
-        })
+        let gaps = self.gaps.splice(alloc, at, upto, key, &val)?;
+        Ok(DiffLeaf { gaps })
     }
 
     fn without(&self, alloc: Global, at: u64) -> Result<DiffLeaf<V>, NoMemory> {
-        let gaps = without::<V>(alloc, &self.gaps, at)?;
-        Ok(DiffLeaf {
-            gaps,
-            values: PhantomData,
-        })
+        let gaps = self.gaps.without(alloc, at)?;
+        Ok(DiffLeaf { gaps })
     }
 }
 

@@ -1,9 +1,9 @@
 -- Bytes that begin as those of a map do.
 use Rattle.std.proofs.Common.{◌≡◌, ℕ, ◌+◌, ◌-◌, ◌*◌, ◌^◌, ◌<◌, ◌≤◌, List, [], ◌∷◌, ◌++◌, length, take, drop, get_or, refl, sym, subst, ap, ◌∙◌, arith, append_assoc, length-append, lit<, take-append-drop}
 use Rattle.std.proofs.lemmas.List.{append_cancel_right, take_all, take_more_same}
-use Rattle.diff_leaf.specs.Code.{code, last_key}
-use Rattle.diff_leaf.specs.Leb.{leb}
-use Rattle.diff_leaf.specs.LebLaws.{leb_some}
+use Rattle.gap_code.specs.Code.{code, last_key}
+use Rattle.gap_code.specs.Leb.{leb}
+use Rattle.gap_code.specs.LebLaws.{leb_some}
 use Rattle.entry_bytes.specs.declared.fault.DecodeFault.{DecodeFault}
 use Rattle.entry_bytes.specs.Faults.{IsBegun, IsChecksumFault, IsEndFault, least_gap}
 use Rattle.entry_bytes.specs.Format.{header, front, checksum, encoding}

@@ -6,9 +6,9 @@ use Rattle.std.specs.Ordering.{nat_cmp}
 use Rattle.map_model.specs.Entries.{AllAbove, AllKeys, IsIncreasing}
 use Rattle.map_model.proofs.NatKeys.{lt_from_less, less-nat_cmp}
 use Rattle.map_model.proofs.Keys.{IsIncreasing-append}
-use Rattle.diff_leaf.specs.Code.{code_after, last_key}
-use Rattle.diff_leaf.specs.Leb.{leb, number_of}
-use Rattle.diff_leaf.specs.LebLaws.{number_of-leb, leb_some}
+use Rattle.gap_code.specs.Code.{code_after, last_key}
+use Rattle.gap_code.specs.Leb.{leb, number_of}
+use Rattle.gap_code.specs.LebLaws.{number_of-leb, leb_some}
 use Rattle.entry_bytes.specs.Faults.{least_gap}
 
 -- of two numbers the bytes of neither begin those of the other

@@ -3,8 +3,8 @@ use Rattle.std.proofs.Common.{◌≡◌, ℕ, ◌+◌, ◌-◌, ◌^◌, ◌<◌
 use Rattle.std.proofs.lemmas.List.{append_cancel_left, take_all, get_or_append_left}
 use Rattle.std.specs.Ordering.{nat_cmp}
 use Rattle.map_model.specs.Entries.{IsIncreasing}
-use Rattle.diff_leaf.specs.Code.{code, code_after, last_key}
-use Rattle.diff_leaf.specs.Leb.{leb}
+use Rattle.gap_code.specs.Code.{code, code_after, last_key}
+use Rattle.gap_code.specs.Leb.{leb}
 use Rattle.entry_bytes.specs.declared.fault.DecodeFault.{DecodeFault}
 use Rattle.entry_bytes.specs.declared.fault.DecodeFault.TheVariants.{Short, Magic, Version, Kind, Number, Order, Trailing, Checksum, NoMemory}
 use Rattle.entry_bytes.specs.Faults.{IsCut, NoNumber, IsNumberFault, IsHeaderFault, IsCrowded, IsCountFault, IsBegun, least_gap, IsEntryFault, IsEntriesFault, IsEndFault, IsChecksumFault, IsFirstFault}

@@ -4,8 +4,8 @@ use Rattle.std.proofs.lemmas.Bool.{cases_lt}
 use Rattle.std.proofs.lemmas.Bool.Decides.{nat_tests}
 use Rattle.std.proofs.lemmas.List.{drop_more, drop_all, drop_at, drop-drop, get_or_at}
 use Rattle.std.proofs.Math.Nat.{pow-suc, pow-le-pow_right}
-use Rattle.diff_leaf.specs.Leb.{leb, number_of, BeginsWith}
-use Rattle.diff_leaf.specs.LebLaws.{leb_small, leb_large, leb_some, number_of-leb}
+use Rattle.gap_code.specs.Leb.{leb, number_of, BeginsWith}
+use Rattle.gap_code.specs.LebLaws.{leb_small, leb_large, leb_some, number_of-leb}
 use Rattle.entry_bytes.specs.Faults.{IsCut, NoNumber}
 use Rattle.entry_bytes.specs.Reads.{IsRead}
 

@@ -1,7 +1,7 @@
 -- What has been read so far, and what is at fault next.
 use Rattle.std.proofs.Common.{◌≡◌, ℕ, ◌+◌, ◌-◌, ◌*◌, ◌^◌, ◌<◌, ◌≤◌, ◌⊎◌, List, [], ◌∷◌, ◌++◌, length, drop, refl, sym, subst, ap, ◌∙◌, arith, inl, inr, length-append, length-drop}
-use Rattle.diff_leaf.specs.Code.{last_key}
-use Rattle.diff_leaf.specs.Leb.{leb}
+use Rattle.gap_code.specs.Code.{last_key}
+use Rattle.gap_code.specs.Leb.{leb}
 use Rattle.entry_bytes.specs.declared.fault.DecodeFault.{DecodeFault}
 use Rattle.entry_bytes.specs.declared.fault.DecodeFault.TheVariants.{Short, Order}
 use Rattle.entry_bytes.specs.Faults.{IsNumberFault, IsCountFault, IsCrowded, IsBegun, least_gap, IsBehindGap, IsEntryFault, IsEntriesFault}

@@ -1,7 +1,7 @@
 -- Why some bytes are those of no map: what they begin with, and what is at fault next.
 use Rattle.std.specs.Prelude.{◌≡◌, ◌≢◌, ℕ, ◌+◌, ◌*◌, ◌^◌, ◌<◌, ◌≤◌, ◌==◌, ◌⊎◌, List, [], ◌∷◌, ◌++◌, length, take, slice_index, if◌then◌else◌, nat_lt}
-use Rattle.diff_leaf.specs.Code.{code, last_key}
-use Rattle.diff_leaf.specs.Leb.{leb}
+use Rattle.gap_code.specs.Code.{code, last_key}
+use Rattle.gap_code.specs.Leb.{leb}
 use Rattle.entry_bytes.specs.Format.{IsMap, header, front, checksum}
 use Rattle.entry_bytes.specs.declared.fault.DecodeFault.{DecodeFault}
 use Rattle.entry_bytes.specs.declared.fault.DecodeFault.TheVariants.{Short, Magic, Version, Kind, Number, Order, Trailing, Checksum}

@@ -4,8 +4,8 @@ use Rattle.std.specs.Int.{to_be_bytes, w32}
 use Rattle.std.specs.List.{AllByRecursion}
 use Rattle.std.specs.Ordering.{nat_cmp}
 use Rattle.map_model.specs.Entries.{IsIncreasing}
-use Rattle.diff_leaf.specs.Code.{code}
-use Rattle.diff_leaf.specs.Leb.{leb}
+use Rattle.gap_code.specs.Code.{code}
+use Rattle.gap_code.specs.Leb.{leb}
 use Rattle.entry_bytes.specs.Adler.{adler32}
 
 -- the entries of a map of 64 bit numbers

@@ -1,6 +1,6 @@
 -- What is read at a place.
 use Rattle.std.specs.Prelude.{◌≡◌, ℕ, ◌+◌, ◌^◌, ◌<◌, ◌≤◌, List, ◌++◌, length, drop}
-use Rattle.diff_leaf.specs.Leb.{leb}
+use Rattle.gap_code.specs.Leb.{leb}
 use Rattle.entry_bytes.specs.Faults.{IsBegun}
 
 -- a number at a place, and the place after it

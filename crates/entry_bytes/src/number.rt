@@ -1,11 +1,11 @@
 //! Numbers that are read from bytes which may have none.
 ghost use Rattle.std.specs.Prelude.{ℕ, ◌^◌, ◌<◌, ◌≤◌, length, drop, slice_index, MatchResult};
-ghost use Rattle.diff_leaf.specs.Leb.{leb, BeginsWith};
+ghost use Rattle.gap_code.specs.Leb.{leb, BeginsWith};
 ghost use Rattle.entry_bytes.specs.Faults.{IsNumberFault};
 ghost use Rattle.entry_bytes.specs.Reads.{IsRead};
 
 use crate::fault::DecodeFault;
-use diff_leaf::number_at;
+use gap_code::number_at;
 
 /// More bytes with the top bit come before no `u64`'s last.
 const MOST: usize = 9;

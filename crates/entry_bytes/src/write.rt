@@ -1,12 +1,12 @@
 //! Entries as bytes, one after another.
 ghost use Rattle.std.specs.Prelude.{◌≡◌, ◌-◌, ◌≤◌, ◌++◌, IfOk, OnOk};
-ghost use Rattle.diff_leaf.specs.Leb.{leb};
+ghost use Rattle.gap_code.specs.Leb.{leb};
 ghost use Rattle.entry_bytes.specs.Format.{header, checksum};
 
 use crate::adler::checksum_of;
 use crate::header::HEADER;
 use aug_monoid::NoMemory;
-use diff_leaf::push_number;
+use gap_code::push_number;
 use std::alloc::Global;
 
 /// Begins the bytes of a map of so many entries, with room for numbers that take four bytes an entry.

@@ -2,8 +2,8 @@
 ghost use Rattle.std.specs.Prelude.{◌≡◌, ◌++◌, IfOk, OnOk};
 ghost use Rattle.std.specs.Ordering.{nat_cmp};
 ghost use Rattle.map_model.specs.Entries.{IsIncreasing};
-ghost use Rattle.diff_leaf.specs.Code.{code};
-ghost use Rattle.diff_leaf.specs.Leb.{leb};
+ghost use Rattle.gap_code.specs.Code.{code};
+ghost use Rattle.gap_code.specs.Leb.{leb};
 ghost use Rattle.entry_bytes.specs.Format.{encoding};
 
 use aug_monoid::{NoMemory, SumMax};

@@ -1,8 +1,8 @@
 -- A cell, read off its bytes one number after the other.
-use Rattle.std.proofs.Common.{◌≡◌, ℕ, ◌+◌, ◌^◌, ◌<◌, List, ◌++◌, length, drop, sym, ap, ap₂, ◌∙◌, arith, append_assoc, length-append}
-use Rattle.diff_leaf.specs.Leb.{leb, number_of, BeginsWith}
-use Rattle.diff_leaf.proofs.Codes.{number_first}
-use Rattle.diff_leaf.proofs.Places.{past}
+use Rattle.std.proofs.Common.{◌≡◌, ℕ, ◌+◌, ◌^◌, ◌<◌, List, ◌++◌, length, drop, refl, sym, ap, ap₂, ◌∙◌, arith, append_assoc, length-append}
+use Rattle.std.proofs.lemmas.List.{drop_at, drop-drop}
+use Rattle.gap_code.specs.Leb.{leb, number_of, BeginsWith}
+use Rattle.gap_code.specs.LebLaws.{number_of-leb}
 use Rattle.row_leaf.specs.declared.cell.Cell.{Cell}
 use Rattle.row_leaf.specs.Code.{CellFits, cell, cell_bytes, cell_of}
 use Rattle.row_leaf.specs.CodeLaws.{cell_read_back}
@@ -12,7 +12,7 @@ module _ (from : List ℕ) (at : ℕ) (b : BeginsWith CellFits cell_bytes (drop 
   first_is = b.is ∙ append_assoc (leb b.value.column) (leb b.value.weight) b.others
 
   column_is : number_of (drop at from) ≡ b.value.column
-  column_is = number_first _ _ _ first_is
+  column_is = ap number_of first_is ∙ number_of-leb b.value.column (leb b.value.weight ++ b.others)
 
   cell_is : cell_of (drop at from) ≡ b.value
   cell_is = ap cell_of b.is ∙ cell_read_back b.value b.others b.fits
@@ -22,10 +22,11 @@ module _ (from : List ℕ) (at : ℕ) (b : BeginsWith CellFits cell_bytes (drop 
     there = m ∙ ap (λ n. at + length (leb n)) column_is
 
     here : drop middle from ≡ leb b.value.weight ++ b.others
-    here = ap (λ n. drop n from) there ∙ past (leb b.value.column) (leb b.value.weight ++ b.others) from at first_is
+    here =
+        ap (λ n. drop n from) there ∙ sym (drop-drop (length (leb b.value.column)) at from) ∙ ap (drop (length (leb b.value.column))) first_is ∙ drop_at (leb b.value.column) (leb b.value.weight ++ b.others) _ refl
 
     weight_is : number_of (drop middle from) ≡ b.value.weight
-    weight_is = number_first _ _ _ here
+    weight_is = ap number_of here ∙ number_of-leb b.value.weight b.others
 
     pub weight_begins : BeginsWith (λ n. n < 2 ^ 64) leb (drop middle from)
     weight_begins = record { value = b.value.weight; others = b.others; fits = b.fits.1; is = here }

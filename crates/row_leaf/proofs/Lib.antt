@@ -1,5 +1,4 @@
-pub mod Cells
-pub mod Rising
-pub mod Seeks
-pub mod Builds
-pub mod Views
+mod Cells
+mod Falling
+mod Seeks
+mod Views

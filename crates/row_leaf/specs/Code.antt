@@ -1,8 +1,8 @@
 -- Entries at places (row, column), and their code: for each the bytes of the gap from the row before, of the column and of the weight.
 use Rattle.std.specs.Prelude.{ℕ, ◌<◌, ◌^◌, List, ◌++◌, length, drop, map}
 use Rattle.aug_monoid.specs.declared.pair64.Pair64.{Pair64}
-use Rattle.diff_leaf.specs.Code.{code}
-use Rattle.diff_leaf.specs.Leb.{leb, number_of}
+use Rattle.gap_code.specs.Code.{code}
+use Rattle.gap_code.specs.Leb.{leb, number_of}
 use Rattle.row_leaf.specs.declared.cell.Cell.{Cell}
 
 abbrev pub cell : ℕ → ℕ → Cell

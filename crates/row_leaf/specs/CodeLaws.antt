@@ -2,9 +2,9 @@
 use Rattle.std.proofs.Common.{◌≡◌, ℕ, List, [], ◌∷◌, ◌++◌, length, drop, map, refl, ap, ap₂, ◌∙◌, ◌≤◌, arith, append_assoc}
 use Rattle.std.proofs.lemmas.List.{drop_at, length-map}
 use Rattle.aug_monoid.specs.declared.pair64.Pair64.{Pair64}
-use Rattle.diff_leaf.specs.Code.{IsPlace}
-use Rattle.diff_leaf.specs.Leb.{leb, number_of}
-use Rattle.diff_leaf.specs.LebLaws.{number_of-leb}
+use Rattle.gap_code.specs.Code.{IsPlace}
+use Rattle.gap_code.specs.Leb.{leb, number_of}
+use Rattle.gap_code.specs.LebLaws.{number_of-leb}
 use Rattle.row_leaf.specs.declared.cell.Cell.{Cell}
 use Rattle.row_leaf.specs.Code.{CellFits, cell, cell_bytes, cell_of, place_entry, row_entry}
 

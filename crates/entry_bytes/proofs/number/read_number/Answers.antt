@@ -1,7 +1,7 @@
 use Rattle.std.proofs.Common.{List, ℕ, ◌<◌, ◌^◌, subst}
 use Rattle.std.proofs.lemmas.List.{take_rest}
 use Rattle.std.proofs.lemmas.Result.{err_from_is_err_and}
-use Rattle.diff_leaf.specs.Leb.{leb, BeginsWith}
+use Rattle.gap_code.specs.Leb.{leb, BeginsWith}
 use Rattle.entry_bytes.specs.Faults.{IsNumberFault}
 use Rattle.entry_bytes.proofs.Numbers.{read_is}
 use Rattle.entry_bytes.proofs.number.read_number.Goals as goal

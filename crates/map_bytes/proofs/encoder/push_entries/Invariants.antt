@@ -1,8 +1,8 @@
 use Rattle.std.proofs.Common.{◌≡◌, ◌++◌, ◌⊎◌}
 use Rattle.std.specs.Ordering.{nat_cmp}
 use Rattle.map_model.specs.Entries.{AllAbove, IsIncreasing}
-use Rattle.diff_leaf.specs.Code.{code, code_after}
-use Rattle.diff_leaf.specs.Leb.{leb}
+use Rattle.gap_code.specs.Code.{code, code_after}
+use Rattle.gap_code.specs.Leb.{leb}
 use Rattle.map_bytes.proofs.encoder.push_entries.Given as goal
 
 abbrev pub invariant-loop-entry : goal.invariant-loop-entry

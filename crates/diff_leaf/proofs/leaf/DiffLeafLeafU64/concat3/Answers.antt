@@ -1,13 +1,8 @@
-use Rattle.std.proofs.Common.{◌∷◌, ◌++◌, ap₂, ◌∙◌}
-use Rattle.diff_leaf.proofs.Views.{read_are, read_gaps}
+use Rattle.std.proofs.Common.{◌∷◌, ◌++◌, ap₂, sym, subst}
+use Rattle.gap_code.specs.Code.{NotFalling}
+use Rattle.diff_leaf.proofs.Falling.{falling}
 use Rattle.diff_leaf.proofs.leaf.DiffLeafLeafU64.concat3.Goals as goal
 
-pub invariant_of-result : goal.invariant_of-result
-invariant_of-result g c =
-    let law = g.met.V.ValueCode.read_back in
-    read_gaps g.V.ValueCode.fits_bytes g.V.ValueCode.bytes_of g.V.ValueCode.value_of law _ _ c.in_ok-gaps.ensures
-
-pub returns : goal.returns
-returns g c =
-    let law = g.met.V.ValueCode.read_back in
-    read_are g.V.ValueCode.fits_bytes g.V.ValueCode.bytes_of g.V.ValueCode.value_of law _ _ c.in_ok-gaps.ensures ∙ ap₂ (λ l r. l ++ (c.args.key, c.args.val) ∷ r) c.self.view_is c.right.view_is
+pub concat-requires-clause-rises : goal.concat-requires-clause-rises
+concat-requires-clause-rises g c =
+    subst (NotFalling 0) (sym (ap₂ (λ l r. l ++ (c.args.key, c.args.val) ∷ r) c.self.view_is c.right.view_is)) (falling _ c.requires.increasing)

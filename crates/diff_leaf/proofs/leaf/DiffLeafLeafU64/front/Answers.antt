@@ -1,13 +1,11 @@
-use Rattle.std.proofs.Common.{take, ap, ◌∙◌}
-use Rattle.diff_leaf.proofs.Views.{read_are, read_gaps}
+use Rattle.std.proofs.Common.{sym, subst, take, drop, take-append-drop}
+use Rattle.std.specs.Ordering.{nat_cmp}
+use Rattle.map_model.specs.Entries.{IsIncreasing}
+use Rattle.map_model.proofs.Keys.{IsIncreasing-front}
 use Rattle.diff_leaf.proofs.leaf.DiffLeafLeafU64.front.Goals as goal
 
 pub invariant_of-result : goal.invariant_of-result
 invariant_of-result g c =
-    let law = g.met.V.ValueCode.read_back in
-    read_gaps g.V.ValueCode.fits_bytes g.V.ValueCode.bytes_of g.V.ValueCode.value_of law _ _ c.in_ok-gaps.ensures
-
-pub returns : goal.returns
-returns g c =
-    let law = g.met.V.ValueCode.read_back in
-    read_are g.V.ValueCode.fits_bytes g.V.ValueCode.bytes_of g.V.ValueCode.value_of law _ _ c.in_ok-gaps.ensures ∙ ap (take c.args.at) c.self.view_is
+    let entries = c.self.inside.gaps in
+    let whole = subst (IsIncreasing nat_cmp) (sym (take-append-drop c.args.at entries)) c.self.invariant in
+    subst (IsIncreasing nat_cmp) (sym c.in_ok-gaps.ensures) (IsIncreasing-front nat_cmp (take c.args.at entries) (drop c.args.at entries) whole)

@@ -1,13 +1,8 @@
-use Rattle.std.proofs.Common.{◌∷◌, ◌++◌, take, drop, ap, ◌∙◌}
-use Rattle.diff_leaf.proofs.Views.{read_are, read_gaps}
+use Rattle.std.proofs.Common.{◌∷◌, ◌++◌, take, drop, ap, sym, subst}
+use Rattle.gap_code.specs.Code.{NotFalling}
+use Rattle.diff_leaf.proofs.Falling.{falling}
 use Rattle.diff_leaf.proofs.leaf.DiffLeafLeafU64.splice.Goals as goal
 
-pub invariant_of-result : goal.invariant_of-result
-invariant_of-result g c =
-    let law = g.met.V.ValueCode.read_back in
-    read_gaps g.V.ValueCode.fits_bytes g.V.ValueCode.bytes_of g.V.ValueCode.value_of law _ _ c.in_ok-gaps.ensures
-
-pub returns : goal.returns
-returns g c =
-    let law = g.met.V.ValueCode.read_back in
-    read_are g.V.ValueCode.fits_bytes g.V.ValueCode.bytes_of g.V.ValueCode.value_of law _ _ c.in_ok-gaps.ensures ∙ ap (λ es. take c.args.at es ++ (c.args.key, c.args.val) ∷ drop c.args.upto es) c.self.view_is
+pub splice-requires-clause-rises : goal.splice-requires-clause-rises
+splice-requires-clause-rises g c =
+    subst (NotFalling 0) (sym (ap (λ es. take c.args.at es ++ (c.args.key, c.args.val) ∷ drop c.args.upto es) c.self.view_is)) (falling _ c.requires.increasing)

@@ -1,13 +1,8 @@
-use Rattle.std.proofs.Common.{◌++◌, ◌+◌, take, drop, ap, ◌∙◌}
-use Rattle.diff_leaf.proofs.Views.{read_are, read_gaps}
+use Rattle.std.proofs.Common.{sym, subst}
+use Rattle.std.specs.Ordering.{nat_cmp}
+use Rattle.map_model.specs.Entries.{IsIncreasing}
+use Rattle.map_model.proofs.Cuts.{IsIncreasing-without}
 use Rattle.diff_leaf.proofs.leaf.DiffLeafLeafU64.without.Goals as goal
 
 pub invariant_of-result : goal.invariant_of-result
-invariant_of-result g c =
-    let law = g.met.V.ValueCode.read_back in
-    read_gaps g.V.ValueCode.fits_bytes g.V.ValueCode.bytes_of g.V.ValueCode.value_of law _ _ c.in_ok-gaps.ensures
-
-pub returns : goal.returns
-returns g c =
-    let law = g.met.V.ValueCode.read_back in
-    read_are g.V.ValueCode.fits_bytes g.V.ValueCode.bytes_of g.V.ValueCode.value_of law _ _ c.in_ok-gaps.ensures ∙ ap (λ es. take c.args.at es ++ drop (c.args.at + 1) es) c.self.view_is
+invariant_of-result g c = subst (IsIncreasing nat_cmp) (sym c.in_ok-gaps.ensures) (IsIncreasing-without nat_cmp c.args.at c.self.inside.gaps c.self.invariant)

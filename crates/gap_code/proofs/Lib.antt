@@ -1,0 +1,4 @@
+mod Numbers
+mod Codes
+mod Places
+mod Builds

@@ -1,0 +1,5 @@
+pub mod Leb
+pub mod LebLaws
+pub mod Code
+pub mod CodeLaws
+pub mod SeekLaws
