@@ -4,10 +4,10 @@ ghost use Rattle.std.specs.List.{flat_map};
 ghost use Rattle.map_model.specs.Operations.{build};
 
 use crate::gives::Gives;
-use crate::sorting::put_in_order;
 use aug_monoid::{Key, NoMemory, Second};
 use entry_lists::union_of;
-use fork_join::{Cut, Divide, Gate, Opened, divide};
+use fork_join::{Cut, Divide, Gate, On, Opened, divide};
+use sorted_lists::put_in_order;
 use std::alloc::Global;
 use std::marker::{Send, Sync};
 use std::thread::Threads;
@@ -94,19 +94,17 @@ fn most_at_once(cut: Cut, items: usize) -> usize {
     }
 }
 
-/// The keys that a list's items give, in order and each once. The list is cut in as many parts as there are workers, where the cut
-/// allows it; the keys of a part are sorted, and parts are merged. For n keys it makes about n * log n comparisons. `NoMemory` for
+/// The keys that a list's items give, in order and each once. The list is halved, where the cut allows it, until there is a part for
+/// each worker; the keys of a part are sorted, and parts are merged. For n keys it makes about n * log n comparisons. `NoMemory` for
 /// want of memory alone.
 pub fn set_of<R: Threads + Sync, G: Gate, T: Sync, K: Key + Send, W: Gives<T, K> + Send + Sync>(
-    rt: &R,
+    on: On<R, G>,
     alloc: Global,
-    gate: &G,
-    cut: Cut,
     how: &W,
     items: &[T],
 ) -> Result<Vec<(K, ())>, NoMemory>
     ensures { IfOk result (λ keys. keys.items ≡ build K.cmp (flat_map (W.given how.now) items.now)) }
 {
-    let most = most_at_once(cut, items.len());
-    divide(rt, alloc, gate, cut, &Gathering { how, most }, items)
+    let most = most_at_once(on.cut, items.len());
+    divide(on, alloc, &Gathering { how, most }, items)
 }

@@ -7,7 +7,6 @@
 
 mod gathering;
 mod gives;
-mod sorting;
 
 pub use gathering::{set_of, set_of_alone};
 pub use gives::Gives;

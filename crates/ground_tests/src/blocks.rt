@@ -1,5 +1,6 @@
 //! A block through its trait. Where memory is refused, a test ends here.
-ghost use Rattle.std.specs.Prelude.{◌≡◌, ◌<◌};
+
+ghost use Rattle.aug_monoid.specs.Fresh.{IsFresh};
 
 use aug_monoid::{Key, Leaf, LeafMut, Lent, Seek, Share, Steps};
 use std::alloc::Global;
@@ -8,9 +9,7 @@ use std::process::Abort;
 use std::sync::ledger::{Blank, Ledger};
 
 fn counted_seek<K: Key, V: Share, L: Leaf<K, V>, C: Ledger>(leaf: &L, key: &K, blank: Blank) -> Seek
-    requires name { blank.name ≡ C.name }
-    requires parts { blank.parts ≡ C.parts }
-    requires some { 0 < blank.parts }
+    requires { IsFresh C.name C.parts blank }
 {
     let mut steps = Steps::<C>::start(blank);
     leaf.seek(key, &mut steps)

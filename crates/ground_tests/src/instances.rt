@@ -1,8 +1,9 @@
 //! Each instance at work, through its trait.
-ghost use Rattle.std.specs.Prelude.{◌≡◌, ◌+◌, ◌-◌, ◌^◌, ◌<◌, ◌≤◌, min, nat_le};
+ghost use Rattle.std.specs.Prelude.{◌+◌, ◌-◌, ◌^◌, ◌≤◌, min, nat_le};
 ghost use Rattle.std.proofs.Common.{ap, arith};
 ghost use Rattle.map_model.proofs.Folds.{fold-append};
 ghost use Rattle.aug_monoid.specs.Totals.{totals_monoid, totals_base_fits};
+ghost use Rattle.aug_monoid.specs.Fresh.{IsFresh};
 
 use aug_monoid::{
     AugTest, Augment, First, Key, Larger, MaxRight, NoMemory, Nothing, Pair, Pair64, Project,
@@ -19,9 +20,7 @@ fn shared<R: Abort, T: Share>(rt: &R, alloc: Global, value: &T) -> T {
 }
 
 fn counted_order<K: Key, C: Ledger>(a: &K, b: &K, blank: Blank) -> Ordering
-    requires name { blank.name ≡ C.name }
-    requires parts { blank.parts ≡ C.parts }
-    requires some { 0 < blank.parts }
+    requires { IsFresh C.name C.parts blank }
 {
     let mut steps = Steps::<C>::start(blank);
     a.order(b, &mut steps)
@@ -37,9 +36,7 @@ fn counted_fold<R: Abort, A: Augment, C: Ledger>(
     entries: &[(A::Key, A::Val)],
     blank: Blank,
 ) -> A::Aug
-    requires name { blank.name ≡ C.name }
-    requires parts { blank.parts ≡ C.parts }
-    requires some { 0 < blank.parts }
+    requires { IsFresh C.name C.parts blank }
 {
     let mut steps = Steps::<C>::start(blank);
     let mut fold = A::unit();

@@ -1,4 +1,4 @@
-//! Tests of the crates below the trees: the plain program, the instances, slices, sets, forks, turns and blocks.
+//! Tests of the crates below the trees: the plain program, the instances, slices, sorts, sets, forks, turns and blocks.
 //!
 //! Tests: here. Wrong bodies: none; a test promises nothing.
 #![tactic(auto)]
@@ -21,5 +21,7 @@ mod row_blocks;
 mod sets;
 #[cfg(test)]
 mod slices;
+#[cfg(test)]
+mod sortings;
 #[cfg(test)]
 mod turns;

@@ -2,7 +2,7 @@
 ghost use Rattle.std.specs.Prelude.{◌/◌, [], ◌∷◌};
 
 use aug_monoid::NoMemory;
-use fork_join::Cut;
+use fork_join::{Cut, On};
 use gathering::{Gives, set_of, set_of_alone};
 use meeting::Meeting;
 use std::alloc::Global;
@@ -36,7 +36,12 @@ fn with_tenths<R: Threads + Abort + Sync>(
     numbers: &[u64],
 ) -> (Vec<(u64, ())>, bool) {
     let gate = Meeting::new();
-    let set = set_of(rt, alloc, &gate, Cut::new(2, 1), &WithTenth, numbers);
+    let on = On {
+        rt,
+        gate: &gate,
+        cut: Cut::new(2, 1),
+    };
+    let set = set_of(on, alloc, &WithTenth, numbers);
     (set.expect(rt, "memory"), gate.was_met())
 }
 

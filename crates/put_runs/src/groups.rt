@@ -1,27 +1,13 @@
 //! Of each key of a run of puts where it comes first, and the last entry.
 ghost use Rattle.std.specs.Prelude.{◌≡◌, IfOk, slice_index_or};
-ghost use Rattle.std.specs.List.{dedup};
-ghost use Rattle.std.specs.Ordering.{is_eq, nat_cmp};
 ghost use Rattle.put_runs.specs.Places.{AreFirsts, AreLasts, begins_with, last_of_each, valued};
 
 use crate::sorting::sorted_places;
 use aug_monoid::NoMemory;
+use sorted_lists::keep_first_of_each;
 use std::alloc::Global;
 use std::marker::Sync;
 use std::thread::Threads;
-
-/// Leaves of places in a row that have one key the first.
-fn keep_first_of_each_key(places: &mut Vec<(u64, u64)>)
-    ensures { places.new.items ≡ dedup (λ x y. is_eq (nat_cmp x.0 y.0)) places.old.items }
-{
-    places.dedup_by(
-        |x: &mut (u64, u64), y: &mut (u64, u64)| -> bool
-            ensures answer { result ≡ is_eq (nat_cmp x.old.0 y.old.0) }
-            ensures same_first { x.new ≡ x.old }
-            ensures same_second { y.new ≡ y.old }
-        { x.0.cmp(&y.0).is_eq() },
-    );
-}
 
 /// The entries at the last of places in a row that have one key.
 fn last_entries(
@@ -73,6 +59,6 @@ pub(crate) fn firsts_and_lasts<R: Threads + Sync>(
 {
     let mut places = sorted_places(rt, alloc, entries)?;
     let lasts = last_entries(alloc, entries, &places)?;
-    keep_first_of_each_key(&mut places);
+    keep_first_of_each(&mut places);
     Ok((places, lasts))
 }

@@ -1,16 +1,17 @@
 //! Many puts at once, and how many entries the map has after each.
-ghost use Rattle.std.specs.Prelude.{◌≡◌, ◌<◌, IfOk};
+ghost use Rattle.std.specs.Prelude.{◌≡◌, IfOk};
 ghost use Rattle.std.specs.Ordering.{nat_cmp};
 ghost use Rattle.map_model.specs.Operations.{after, puts};
 ghost use Rattle.map_model.specs.SetOperations.{difference};
 ghost use Rattle.put_runs.specs.Places.{AreFirsts};
 ghost use Rattle.put_runs.specs.Sizes.{sizes_after};
+ghost use Rattle.aug_monoid.specs.Fresh.{IsFresh};
 
 use crate::groups::firsts_and_lasts;
 use crate::marks::{counts, marked};
 use aug_map::PlainMap;
 use aug_monoid::{NoMemory, Second, Steps, SumMax};
-use fork_join::{Cut, Gate};
+use fork_join::{Gate, On};
 use std::alloc::Global;
 use std::marker::{Brand, Sync};
 use std::sync::ledger::{Blank, Ledger};
@@ -26,9 +27,7 @@ fn new_keys<C: Ledger>(
     places: &[(u64, u64)],
     blank: Blank,
 ) -> Result<Vec<(u64, u64)>, NoMemory>
-    requires name { blank.name ≡ C.name }
-    requires parts { blank.parts ≡ C.parts }
-    requires some { 0 < blank.parts }
+    requires { IsFresh C.name C.parts blank }
     ensures { IfOk result (λ new. new.items ≡ difference nat_cmp places.now map.now.entries) }
 {
     let mut steps = Steps::<C>::start(blank);
@@ -63,10 +62,8 @@ fn sizes_of_puts(
 /// the map is changed by halves that fork where the cut allows it; what of it has one owner is moved. `NoMemory` for want of memory
 /// alone, which gives the map up.
 pub fn put_run<R: Threads + Sync, G: Gate>(
-    rt: &R,
+    on: On<R, G>,
     alloc: Global,
-    gate: &G,
-    cut: Cut,
     map: PlainMap<SumMax<u64>>,
     entries: &[(u64, u64)],
 ) -> Result<(PlainMap<SumMax<u64>>, Vec<u64>), NoMemory>
@@ -74,8 +71,8 @@ pub fn put_run<R: Threads + Sync, G: Gate>(
     ensures sizes { IfOk result (λ done. done.1.items ≡ sizes_after map.entries entries.now) }
 {
     let _size = map.size(); // for the proof alone: its keys rise
-    let (firsts, lasts) = firsts_and_lasts(rt, alloc, entries)?;
+    let (firsts, lasts) = firsts_and_lasts(on.rt, alloc, entries)?;
     let sizes = sizes_of_puts(alloc, &map, entries, &firsts)?;
-    let after = map.union_into(rt, alloc, gate, cut, &lasts, &Second)?;
+    let after = map.union_into(on.rt, alloc, on.gate, on.cut, &lasts, &Second)?;
     Ok((after, sizes))
 }

@@ -1,30 +1,20 @@
-use Rattle.std.proofs.Common.{◌≡◌, ℕ, ◌++◌, take, drop, length, ap, ◌∙◌, arith, rules, subst}
-use Rattle.std.proofs.lemmas.Grind.{common_steps}
-use Rattle.std.specs.List.{filter_map, list_any}
+use Rattle.std.proofs.Common.{ℕ, List, ◌∙◌, subst}
+use Rattle.std.proofs.lemmas.Result.{IfOk-weaker}
+use Rattle.std.specs.List.{filter_map}
 use Rattle.std.specs.List.Sorted.{IsStableByKey}
 use Rattle.std.specs.Ordering.{nat_cmp}
 use Rattle.op_runs.specs.declared.outcome.Outcome.{Outcome}
-use Rattle.op_runs.specs.Steps.{change_of, changes_at, changes_key}
+use Rattle.op_runs.specs.Steps.{change_of}
 use Rattle.op_runs.proofs.KeptOrder.{changes_at-stable, keys-stable}
 use Rattle.op_runs.proofs.RunLaws.{changes_at-ops, keys-ops}
 use Rattle.op_runs.proofs.sorting.sorted_changes.Goals as goal
 
 pub returns-clause-same : goal.returns-clause-same
-returns-clause-same g c q =
-    let ops = c.args.ops.now in
-    let old = c.in_ok-changes.changes in
-    let sorted = c.sort_changes.new.changes in
-    let whole : take old.len (sorted ++ drop (length sorted) old.items) ≡ sorted = grind (arith, common_steps) in
-    let lent : c.as_mut_slice.result.now ≡ filter_map change_of ops = search rules in
-    let stable : IsStableByKey (λ (e : ℕ × Outcome). e.0) nat_cmp (filter_map change_of ops) sorted = subst (λ xs. IsStableByKey (λ (e : ℕ × Outcome). e.0) nat_cmp xs sorted) lent c.in_ok-sort_changes.ensures.stable in
-    ap (λ xs. changes_at xs q) whole ∙ changes_at-stable (filter_map change_of ops) sorted stable q ∙ changes_at-ops ops q c.requires.singles
+returns-clause-same g c = IfOk-weaker c.sorted_pairs.result _ _ (λ v stable q.
+    let changes = filter_map change_of c.args.ops.now in
+    changes_at-stable changes v.items (subst (λ (xs : List (ℕ × Outcome)). IsStableByKey (λ (e : ℕ × Outcome). e.0) nat_cmp xs v.items) c.in_ok-changes.ensures stable) q ∙ changes_at-ops c.args.ops.now q c.requires.singles) c.sorted_pairs.ensures.stable
 
 pub returns-clause-keys : goal.returns-clause-keys
-returns-clause-keys g c q =
-    let ops = c.args.ops.now in
-    let old = c.in_ok-changes.changes in
-    let sorted = c.sort_changes.new.changes in
-    let whole : take old.len (sorted ++ drop (length sorted) old.items) ≡ sorted = grind (arith, common_steps) in
-    let lent : c.as_mut_slice.result.now ≡ filter_map change_of ops = search rules in
-    let stable : IsStableByKey (λ (e : ℕ × Outcome). e.0) nat_cmp (filter_map change_of ops) sorted = subst (λ xs. IsStableByKey (λ (e : ℕ × Outcome). e.0) nat_cmp xs sorted) lent c.in_ok-sort_changes.ensures.stable in
-    ap (λ xs. list_any (changes_key q) xs) whole ∙ keys-stable (filter_map change_of ops) sorted stable q ∙ keys-ops ops q
+returns-clause-keys g c = IfOk-weaker c.sorted_pairs.result _ _ (λ v stable q.
+    let changes = filter_map change_of c.args.ops.now in
+    keys-stable changes v.items (subst (λ (xs : List (ℕ × Outcome)). IsStableByKey (λ (e : ℕ × Outcome). e.0) nat_cmp xs v.items) c.in_ok-changes.ensures stable) q ∙ keys-ops c.args.ops.now q) c.sorted_pairs.ensures.stable

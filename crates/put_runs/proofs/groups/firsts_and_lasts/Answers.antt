@@ -7,7 +7,7 @@ use Rattle.put_runs.proofs.groups.firsts_and_lasts.Goals as goal
 pub returns-clause-firsts : goal.returns-clause-firsts
 returns-clause-firsts g c =
     let entries = c.args.entries.now in
-    rw c.keep_first_of_each_key.ensures (firsts_are entries c.in_ok-places.places.items c.in_ok-places.ensures.sorted c.in_ok-places.ensures.stable)
+    rw c.keep_first_of_each.ensures (firsts_are entries c.in_ok-places.places.items c.in_ok-places.ensures.sorted c.in_ok-places.ensures.stable)
 
 pub returns-clause-lasts : goal.returns-clause-lasts
 returns-clause-lasts g c =

@@ -1,8 +1,8 @@
 use Rattle.std.proofs.Common.{◌≡◌, ◌++◌, take, drop, length, arith, rules, subst}
 use Rattle.std.proofs.lemmas.Grind.{common_steps}
 use Rattle.std.specs.List.Sorted.{IsPermutation}
-use Rattle.gathering.proofs.Sets.{sorted_set}
-use Rattle.gathering.proofs.sorting.put_in_order.Goals as goal
+use Rattle.sorted_lists.proofs.KeySets.{sorted_set}
+use Rattle.sorted_lists.proofs.keys.put_in_order.Goals as goal
 
 pub returns : goal.returns
 returns g c =

@@ -1,0 +1,2 @@
+mod Batches
+mod KeySets
