@@ -8,7 +8,7 @@ ghost use Rattle.batch_store.specs.Round.{AreTold};
 use crate::caller::Caller;
 use crate::publishing::publish_all;
 use aug_monoid::NoMemory;
-use fork_join::{Cut, Gate};
+use fork_join::{Gate, On};
 use std::alloc::Global;
 use std::marker::Sync;
 use std::sync::Wait;
@@ -94,10 +94,8 @@ pub(crate) fn tell_all<S: State, R: Wait>(
 
 /// Publishes all that is pending, and tells each caller the journal.
 pub(crate) fn close<S: State, R: Threads + Wait + Sync, G: Gate>(
-    rt: &R,
+    on: On<R, G>,
     alloc: Global,
-    gate: &G,
-    cut: Cut,
     writer: &mut Writer<S>,
     pending: &mut Vec<Entry<S::Op>>,
     callers: &mut [Caller<S>],
@@ -110,8 +108,8 @@ pub(crate) fn close<S: State, R: Threads + Wait + Sync, G: Gate>(
     ensures published { OnOk result ((writer.new.journal ≡ writer.old.journal ++ pending.old.items) × (pending.new.items ≡ [])) }
     ensures seen { OnOk result (HaveSeen (length callers.old) writer.new.journal callers.old × All (λ caller. caller.reader.seen ≡ writer.new.journal) callers.new) }
 {
-    let number = publish_all(rt, alloc, gate, cut, writer, pending.as_slice())?;
+    let number = publish_all(on, alloc, writer, pending.as_slice())?;
     pending.clear();
-    tell_all(rt, writer, callers)?;
+    tell_all(on.rt, writer, callers)?;
     Ok(number)
 }

@@ -11,7 +11,7 @@ use crate::inbox::Inbox;
 use crate::opening::connect_all;
 use crate::publishing::publish_all;
 use aug_monoid::{NoMemory, Share};
-use fork_join::{Cut, Gate};
+use fork_join::{Cut, Gate, On};
 use std::alloc::Global;
 use std::marker::{Model, Sync};
 use std::sync::Wait;
@@ -105,7 +105,7 @@ impl<S: State> Store<S> {
         self.inbox.take()?;
         let grows = !self.inbox.pending.is_empty();
         let pending = self.inbox.pending.as_slice();
-        let number = publish_all(rt, alloc, gate, cut, &mut self.writer, pending)?;
+        let number = publish_all(On { rt, gate, cut }, alloc, &mut self.writer, pending)?;
         self.inbox.pending.clear();
         tell_gate(gate, grows);
         Ok(number)
@@ -133,10 +133,8 @@ impl<S: State> Store<S> {
     {
         gather(alloc, &mut self.inbox, callers)?;
         let number = close(
-            rt,
+            On { rt, gate, cut },
             alloc,
-            gate,
-            cut,
             &mut self.writer,
             &mut self.inbox.pending,
             callers,
@@ -147,10 +145,8 @@ impl<S: State> Store<S> {
     /// The end of a round, and then a share of the version of the journal.
     fn last_round<R: Threads + Wait + Sync, G: Gate>(
         &mut self,
-        rt: &R,
+        on: On<R, G>,
         alloc: Global,
-        gate: &G,
-        cut: Cut,
         callers: &mut [Caller<S>],
     ) -> Result<Version<S>, NoMemory>
         requires { AreCallersOf self.old callers.old }
@@ -158,7 +154,7 @@ impl<S: State> Store<S> {
         ensures ok { IfOk result (λ version. IsLast self.old callers.old version) }
         ensures err { OnErr result (Postpones self.old self.new ⊎ Publishes self.old self.new) }
     {
-        self.end_round(rt, alloc, gate, cut, callers)?;
+        self.end_round(on.rt, alloc, on.gate, on.cut, callers)?;
         let version = self.writer.current().share(alloc)?;
         Ok(version)
     }
@@ -181,7 +177,7 @@ impl<S: State> Store<S> {
     {
         let mut store = self;
         let mut callers = callers;
-        match store.last_round(rt, alloc, gate, cut, &mut callers) {
+        match store.last_round(On { rt, gate, cut }, alloc, &mut callers) {
             Ok(version) => Ok(version),
             Err(NoMemory) => Err(Unfinished { store, callers }),
         }

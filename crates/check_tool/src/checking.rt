@@ -4,7 +4,7 @@ ghost use Rattle.serve_script.specs.Served.{IsServeInput};
 ghost use Rattle.check_tool.specs.Output.{IsCheckOutput, IsVerdictOn, reply_of};
 
 use aug_monoid::NoMemory;
-use fork_join::{Cut, Gate};
+use fork_join::{Cut, Gate, On};
 use run_check::Verdict;
 use script::line;
 use serve_answers::ServedMap;
@@ -32,10 +32,8 @@ pub fn check<R: Threads + Sync, G: Gate>(
     let records = records(alloc, commands)?;
     let callers = callers(commands);
     run_check::check(
-        rt,
+        On { rt, gate, cut },
         alloc,
-        gate,
-        cut,
         ServedMap::new(),
         &records,
         callers,
@@ -57,16 +55,14 @@ fn reply(alloc: Global, verdict: Verdict) -> Result<Vec<u8>, NoMemory>
 
 /// The reply to an input: the line of the verdict on its text.
 pub fn run_check<R: Threads + Sync, G: Gate>(
-    rt: &R,
+    on: On<R, G>,
     alloc: Global,
-    gate: &G,
-    cut: Cut,
     commands: &[ServeCommand],
     text: &[u8],
 ) -> Result<Vec<u8>, NoMemory>
     requires { IsServeInput commands.now }
     ensures { IfOk result (λ reply. IsCheckOutput commands.now text.now reply.items) }
 {
-    let verdict = check(rt, alloc, gate, cut, commands, text)?;
+    let verdict = check(on.rt, alloc, on.gate, on.cut, commands, text)?;
     reply(alloc, verdict)
 }

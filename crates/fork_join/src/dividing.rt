@@ -5,6 +5,7 @@ ghost use Rattle.std.specs.Thread.{IsSend, IsSync};
 use crate::cut::Cut;
 use crate::fork::{Sizes, fork_halves};
 use crate::gate::Gate;
+use crate::on::On;
 use crate::work::{Divide, Opened};
 use aug_monoid::NoMemory;
 use std::alloc::Global;
@@ -13,7 +14,7 @@ use std::thread::Threads;
 
 /// The answer for a part, by halves of halves, forked where the cut allows it. A half that is too small for a worker of its own
 /// is done by the caller's thread, and takes no worker from the other.
-/// The answer depends on neither the runtime nor the gate nor the cut.
+/// The answer does not depend on where it runs.
 #[cycle(divide)]
 pub fn divide<
     R: Threads + Sync,
@@ -22,7 +23,7 @@ pub fn divide<
     M: Send + Drop,
     O: Send + Drop,
     D: Divide<P, M, O> + Send + Sync,
->(rt: &R, alloc: Global, gate: &G, cut: Cut, work: &D, part: P) -> Result<O, NoMemory>
+>(on: On<R, G>, alloc: Global, work: &D, part: P) -> Result<O, NoMemory>
     requires { D.fits work.now part }
     ensures { IfOk result (D.answers work.now part) }
 {
@@ -38,12 +39,12 @@ pub fn divide<
             let near = move |cut: Cut| -> Result<O, NoMemory>
                 requires { IsSync R.row × IsSync G.row × IsSync D.row × IsSend P.row × IsSend M.row × IsSend O.row × D.fits work.now front }
                 ensures { IfOk result (D.answers work.entry.now front) }
-            { divide(rt, alloc, gate, cut, work, front) };
+            { divide(on.with(cut), alloc, work, front) };
             let far = move |cut: Cut| -> Result<O, NoMemory>
                 requires { IsSync R.row × IsSync G.row × IsSync D.row × IsSend P.row × IsSend M.row × IsSend O.row × D.fits work.now back }
                 ensures { IfOk result (D.answers work.entry.now back) }
-            { divide(rt, alloc, gate, cut, work, back) };
-            let (left, right) = fork_halves(rt, gate, cut, sizes, near, far);
+            { divide(on.with(cut), alloc, work, back) };
+            let (left, right) = fork_halves(on, sizes, near, far);
             work.close(alloc, left?, middle, right?)
         }
     }

@@ -3,6 +3,7 @@ ghost use Rattle.std.specs.Prelude.{◌≡◌, ◌≤◌};
 
 use crate::cut::Cut;
 use crate::gate::Gate;
+use crate::on::On;
 use std::marker::{Send, Sync};
 use std::thread;
 use std::thread::Threads;
@@ -69,12 +70,13 @@ pub(crate) fn fork_halves<
     H: Send,
     P: FnOnce(Cut) -> F + Send,
     Q: FnOnce(Cut) -> H + Send,
->(rt: &R, gate: &G, cut: Cut, sizes: Sizes, left: P, right: Q) -> (F, H)
+>(on: On<R, G>, sizes: Sizes, left: P, right: Q) -> (F, H)
     requires left { P.IsAlwaysCallable left }
     requires right { Q.IsAlwaysCallable right }
     ensures left { (c : Cut) × P.post left c result.0 }
     ensures right { (c : Cut) × Q.post right c result.1 }
 {
+    let cut = on.cut;
     let workers = cut.workers as u64;
     if sizes.front < sizes.back / workers {
         let first = left(cut.alone());
@@ -85,6 +87,6 @@ pub(crate) fn fork_halves<
         let second = right(cut.alone());
         (first, second)
     } else {
-        fork2(rt, gate, cut, sizes.whole, left, right)
+        fork2(on.rt, on.gate, cut, sizes.whole, left, right)
     }
 }

@@ -1,6 +1,7 @@
 //! Two closures, side by side where the cut allows it, else one after the other, and work that is divided by them.
 //!
-//! A `Cut` says how many workers there are and from which size on a part is worth two of them. `fork2` runs two closures;
+//! A `Cut` says how many workers there are and from which size on a part is worth two of them, and an `On` where a call runs: its
+//! runtime, its gate and its cut. `fork2` runs two closures;
 //! `divide` is the one forked recursion over work that says by `Divide` how a part is opened and how two answers are closed, and
 //! `divide_alone` the same recursion on one thread. What they answer depends neither on the runtime nor on the cut nor on the
 //! gate, which each fork enters, so that a test can show that halves overlap; `FreeGate` lets all through.
@@ -10,10 +11,12 @@ mod cut;
 mod dividing;
 mod fork;
 mod gate;
+mod on;
 mod work;
 
 pub use cut::Cut;
 pub use dividing::{divide, divide_alone};
 pub use fork::fork2;
 pub use gate::{FreeGate, Gate};
+pub use on::On;
 pub use work::{Divide, Opened};

@@ -26,7 +26,7 @@ pub trait Divide<P, M, O>: Drop {
     /// A number that falls from a part to its halves.
     ghost extent: { Self → P → ℕ };
 
-    /// How much work a part is; 0 where `open` does it at once.
+    /// How much work a part is, beside the grain of a cut and beside the other half; what is only taken over is 0.
     fn size(&self, part: &P) -> u64;
 
     /// Does a small part, or splits it.

@@ -2,7 +2,7 @@
 
 use crate::watch::sees_a_fork;
 use aug_monoid::Share;
-use fork_join::Cut;
+use fork_join::{Cut, FreeGate, On};
 use served_graph::{GraphOp, ServedGraph};
 use served_map::{Op, Served};
 use std::alloc::Global;
@@ -55,7 +55,12 @@ fn after<R: Threads + Abort + Sync, S: State>(
     batch: &Batch<S::Op>,
 ) -> S {
     let batches = [batch.share(alloc).expect(rt, "memory")];
-    state.change(rt, alloc, cut, &batches).expect(rt, "memory")
+    let on = On {
+        rt,
+        gate: &FreeGate,
+        cut,
+    };
+    state.change(on, alloc, &batches).expect(rt, "memory")
 }
 
 /// The map of all batches but the last.

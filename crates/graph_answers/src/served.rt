@@ -3,7 +3,7 @@ ghost use Rattle.std.specs.Prelude.{◌≡◌, []};
 ghost use Rattle.served_graph.specs.Steps.{step};
 
 use aug_monoid::{NoMemory, Share};
-use fork_join::Cut;
+use fork_join::{FreeGate, On};
 use graph_snap::Graph;
 use served_graph::{GraphOp, ServedGraph};
 use std::alloc::Global;
@@ -67,12 +67,11 @@ impl State for GraphAnswers {
 
     fn change<R: Threads + Sync>(
         &self,
-        rt: &R,
+        on: On<R, FreeGate>,
         alloc: Global,
-        cut: Cut,
         batches: &[Batch<GraphOp>],
     ) -> Result<GraphAnswers, NoMemory> {
-        let served = self.served.change(rt, alloc, cut, batches)?;
+        let served = self.served.change(on, alloc, batches)?;
         Ok(GraphAnswers { served })
     }
 }

@@ -9,7 +9,7 @@ use crate::GraphCommand;
 use crate::graphs::{Graphs, edges_in};
 use crate::replies::{labelled, reached};
 use aug_monoid::{NoMemory, Share};
-use fork_join::{Cut, Gate};
+use fork_join::{Cut, Gate, On};
 use graph_comp::components;
 use graph_snap::Graph;
 use script::line;
@@ -20,26 +20,22 @@ use std::thread::Threads;
 
 // Appends the reply to a search of a graph.
 fn search<R: Threads + Sync, G: Gate>(
-    rt: &R,
+    on: On<R, G>,
     alloc: Global,
-    gate: &G,
-    cut: Cut,
     text: &mut Vec<u8>,
     graph: &Graph,
     from: u64,
 ) -> Result<(), NoMemory>
     ensures { OnOk result (text.new.items ≡ text.old.items ++ reached_line (reach graph.now from)) }
 {
-    let found = graph.bfs(rt, alloc, gate, cut, from)?;
+    let found = graph.bfs(on.rt, alloc, on.gate, on.cut, from)?;
     reached(alloc, text, &found)
 }
 
 // Appends the reply to a search of a kept graph.
 fn search_kept<R: Threads + Sync, G: Gate>(
-    rt: &R,
+    on: On<R, G>,
     alloc: Global,
-    gate: &G,
-    cut: Cut,
     text: &mut Vec<u8>,
     kept: &[Graph],
     number: u64,
@@ -48,32 +44,28 @@ fn search_kept<R: Threads + Sync, G: Gate>(
     ensures { OnOk result (text.new.items ≡ text.old.items ++ kept_search kept.now number from) }
 {
     match kept.get(number as usize) {
-        Some(graph) => search(rt, alloc, gate, cut, text, graph, from),
+        Some(graph) => search(on, alloc, text, graph, from),
         None => line(text, "none", &[]),
     }
 }
 
 // Appends the reply that lists the components of a graph.
 fn list_components<R: Threads + Sync, G: Gate>(
-    rt: &R,
+    on: On<R, G>,
     alloc: Global,
-    gate: &G,
-    cut: Cut,
     text: &mut Vec<u8>,
     graph: &Graph,
 ) -> Result<(), NoMemory>
     ensures { OnOk result (text.new.items ≡ text.old.items ++ components_line (components graph.now)) }
 {
-    let found = components(rt, alloc, gate, cut, graph)?;
+    let found = components(on.rt, alloc, on.gate, on.cut, graph)?;
     labelled(alloc, text, &found)
 }
 
 /// Runs one command on graphs, and appends its reply.
 pub(crate) fn graph_command<R: Threads + Sync, G: Gate>(
-    rt: &R,
+    on: On<R, G>,
     alloc: Global,
-    gate: &G,
-    cut: Cut,
     graphs: &mut Graphs,
     text: &mut Vec<u8>,
     command: &GraphCommand,
@@ -85,12 +77,14 @@ pub(crate) fn graph_command<R: Threads + Sync, G: Gate>(
         GraphCommand::Add { edges, .. } => {
             let list = edges_in(alloc, edges.items())?;
             let present = mem::replace(&mut graphs.present, Graph::new());
-            graphs.present = present.add_edges_into(rt, alloc, gate, cut, &list)?;
+            graphs.present = present.add_edges_into(on.rt, alloc, on.gate, on.cut, &list)?;
             line(text, "ok", &[graphs.present.edges()])
         }
         GraphCommand::Cut { edges, .. } => {
             let list = edges_in(alloc, edges.items())?;
-            graphs.present = graphs.present.cut_edges(rt, alloc, gate, cut, &list)?;
+            graphs.present = graphs
+                .present
+                .cut_edges(on.rt, alloc, on.gate, on.cut, &list)?;
             line(text, "ok", &[graphs.present.edges()])
         }
         GraphCommand::Keep { .. } => {
@@ -109,10 +103,8 @@ pub(crate) fn graph_command<R: Threads + Sync, G: Gate>(
             let degree = graphs.present.degree(alloc, *u)?;
             line(text, "degree", &[degree])
         }
-        GraphCommand::Now { u, .. } => search(rt, alloc, gate, cut, text, &graphs.present, *u),
-        GraphCommand::Bfs { s, u, .. } => {
-            search_kept(rt, alloc, gate, cut, text, &graphs.kept, *s, *u)
-        }
-        GraphCommand::Comp { .. } => list_components(rt, alloc, gate, cut, text, &graphs.present),
+        GraphCommand::Now { u, .. } => search(on, alloc, text, &graphs.present, *u),
+        GraphCommand::Bfs { s, u, .. } => { search_kept(on, alloc, text, &graphs.kept, *s, *u) }
+        GraphCommand::Comp { .. } => list_components(on, alloc, text, &graphs.present),
     }
 }

@@ -7,7 +7,7 @@ use crate::GraphCommand;
 use crate::command::graph_command;
 use crate::graphs::no_graphs;
 use aug_monoid::NoMemory;
-use fork_join::{Cut, Gate};
+use fork_join::{Gate, On};
 use std::alloc::Global;
 use std::marker::Sync;
 use std::thread::Threads;
@@ -15,10 +15,8 @@ use std::thread::Threads;
 /// The replies to commands in order, from an empty graph and no kept ones. They depend neither on the runtime nor on the gate nor
 /// on the cut, and want of memory alone refuses.
 pub fn run_graph<R: Threads + Sync, G: Gate>(
-    rt: &R,
+    on: On<R, G>,
     alloc: Global,
-    gate: &G,
-    cut: Cut,
     commands: &[GraphCommand],
 ) -> Result<Vec<u8>, NoMemory>
     ensures { IfOk result (λ text. text.items ≡ replies graph_reply graph_after no_graphs commands.now) }
@@ -26,7 +24,7 @@ pub fn run_graph<R: Threads + Sync, G: Gate>(
     let mut graphs = no_graphs(alloc);
     let mut text = Vec::new(alloc);
     for command in commands {
-        graph_command(rt, alloc, gate, cut, &mut graphs, &mut text, command)?;
+        graph_command(on, alloc, &mut graphs, &mut text, command)?;
     }
     Ok(text)
 }

@@ -4,7 +4,7 @@ ghost use Rattle.gserve_check.specs.Verdicts.{IsVerdictOn};
 ghost use Rattle.serve_script.specs.Served.{IsServeInput};
 
 use aug_monoid::NoMemory;
-use fork_join::{Cut, Gate};
+use fork_join::{Gate, On};
 use graph_answers::GraphAnswers;
 use gserve_script::GserveCommand;
 use run_check::Verdict;
@@ -18,10 +18,8 @@ use std::thread::Threads;
 /// search among them by going over what it finds. The changes of the graph fork within the cut. It is refused where memory runs
 /// out.
 pub fn check<R: Threads + Sync, G: Gate>(
-    rt: &R,
+    on: On<R, G>,
     alloc: Global,
-    gate: &G,
-    cut: Cut,
     commands: &[GserveCommand],
     text: &[u8],
 ) -> Result<Verdict, NoMemory>
@@ -31,5 +29,5 @@ pub fn check<R: Threads + Sync, G: Gate>(
     let records = records(alloc, commands)?;
     let callers = callers(commands);
     let graph = GraphAnswers::new();
-    run_check::check(rt, alloc, gate, cut, graph, &records, callers, text)
+    run_check::check(on, alloc, graph, &records, callers, text)
 }

@@ -11,7 +11,7 @@ ghost use Rattle.served_graph.specs.Steps.{step};
 
 use aug_monoid::NoMemory;
 use batch_store::{Caller, Store};
-use fork_join::{Cut, Gate};
+use fork_join::{Cut, Gate, On};
 use graph_answers::GraphAnswers;
 use gserve_script::GserveCommand;
 use serve_input::{callers, records};
@@ -42,23 +42,21 @@ pub fn run_gserve<R: Threads + Wait + Sync, G: Gate>(
     ensures { IfOk result (λ served. HasServed step answer_of (records_of op_of commands.now) store served.store callers.items served.callers.items served.text.items) }
 {
     let records = records(alloc, commands)?;
-    run_rounds(rt, alloc, gate, cut, store, callers, &records)
+    run_rounds(On { rt, gate, cut }, alloc, store, callers, &records)
 }
 
 /// The text of the commands, run on a graph without edges by callers of their own. An input has many lawful texts, and it depends on
 /// the threads which of them this is. It enters the gate and may wait as `run_gserve` does, and is refused only where memory runs
 /// out.
 pub fn gserve_text<R: Threads + Wait + Sync, G: Gate>(
-    rt: &R,
+    on: On<R, G>,
     alloc: Global,
-    gate: &G,
-    cut: Cut,
     commands: &[GserveCommand],
 ) -> Result<Vec<u8>, NoMemory>
     requires { IsServeInput commands.now }
     ensures { IfOk result (λ text. IsGserveOutput commands.now text.items) }
 {
     let (store, callers) = Store::start(alloc, GraphAnswers::new(), callers(commands))?;
-    let served = run_gserve(rt, alloc, gate, cut, store, callers, commands)?;
-    finish(rt, alloc, gate, cut, served)
+    let served = run_gserve(on.rt, alloc, on.gate, on.cut, store, callers, commands)?;
+    finish(on, alloc, served)
 }

@@ -5,7 +5,7 @@ ghost use Rattle.pac_seq.specs.Reversed.{IsReversed, IsAround};
 
 use crate::seq::SeqOver;
 use aug_monoid::{NoMemory, Share};
-use fork_join::{Cut, Divide, Gate, Opened, divide, divide_alone};
+use fork_join::{Cut, Divide, Gate, On, Opened, divide, divide_alone};
 use seq_core::{BlockSize, Fold, Look, SeqTree, SyncFold, copy_items, join, share_item};
 use std::alloc::Global;
 use std::marker::{Send, Sync};
@@ -87,7 +87,7 @@ impl<F: Fold, S: BlockSize> SeqOver<F, S> {
         S: Send + Sync,
         ensures { IfOk result (λ seq. seq.items ≡ reverse self.now.items) }
     {
-        let tree = divide(rt, alloc, gate, cut, &Reversing, &self.tree)?;
+        let tree = divide(On { rt, gate, cut }, alloc, &Reversing, &self.tree)?;
         Ok(SeqOver { tree })
     }
 

@@ -5,7 +5,7 @@ ghost use Rattle.pam_top.specs.Output.{IsOutput, IsPlain};
 
 use aug_monoid::NoMemory;
 use check_tool::run_check;
-use fork_join::{Cut, Gate};
+use fork_join::{Cut, Gate, On};
 use graph_tool::run_graph;
 use gserve_tool::gserve_text;
 use index_tool::run_index;
@@ -32,32 +32,31 @@ pub fn run_plain<R: Threads + Sync, G: Gate>(
     requires plain { IsPlain commands.now }
     ensures { IfOk result (λ text. IsOutput commands.now text.items) }
 {
+    let on = On { rt, gate, cut };
     match commands {
-        Parsed::Map(list) => run_map(rt, alloc, gate, cut, list.items()),
-        Parsed::Seq(list) => run_seq(rt, alloc, gate, cut, list.items()),
+        Parsed::Map(list) => run_map(on, alloc, list.items()),
+        Parsed::Seq(list) => run_seq(on, alloc, list.items()),
         Parsed::Interval(list) => run_intervals(alloc, list.items()),
-        Parsed::Points(list) => run_points(rt, alloc, gate, cut, list.items()),
-        Parsed::Index(list) => run_index(rt, alloc, gate, cut, list.items()),
-        Parsed::Graph(list) => run_graph(rt, alloc, gate, cut, list.items()),
-        Parsed::Check { list, text } => run_check(rt, alloc, gate, cut, list.items(), text.items()),
+        Parsed::Points(list) => run_points(on, alloc, list.items()),
+        Parsed::Index(list) => run_index(on, alloc, list.items()),
+        Parsed::Graph(list) => run_graph(on, alloc, list.items()),
+        Parsed::Check { list, text } => run_check(on, alloc, list.items(), text.items()),
         Parsed::Serve(_) | Parsed::Gserve(_) => unreachable!(),
     }
 }
 
 /// The replies to the commands of any tool. It may wait in the tools serve and gserve alone.
 pub(crate) fn run<R: Threads + Wait + Sync, G: Gate>(
-    rt: &R,
+    on: On<R, G>,
     alloc: Global,
-    gate: &G,
-    cut: Cut,
     commands: &Parsed,
 ) -> Result<Vec<u8>, NoMemory>
     requires { IsLawful commands.now }
     ensures { IfOk result (λ text. IsOutput commands.now text.items) }
 {
     match commands {
-        Parsed::Serve(list) => serve_text(rt, alloc, gate, cut, list.items()),
-        Parsed::Gserve(list) => gserve_text(rt, alloc, gate, cut, list.items()),
-        _ => run_plain(rt, alloc, gate, cut, commands),
+        Parsed::Serve(list) => serve_text(on, alloc, list.items()),
+        Parsed::Gserve(list) => gserve_text(on, alloc, list.items()),
+        _ => run_plain(on.rt, alloc, on.gate, on.cut, commands),
     }
 }

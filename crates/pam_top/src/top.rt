@@ -9,7 +9,7 @@ use crate::Status;
 use crate::asking::{Asked, asked_of};
 use crate::running::run;
 use crate::telling::{error_text, tell};
-use fork_join::Gate;
+use fork_join::{Gate, On};
 use io_edge::{Sink, Source};
 use std::alloc::Global;
 use std::marker::Sync;
@@ -39,7 +39,7 @@ pub fn pam<R: Threads + Wait + Sync, S: Source, K: Sink, G: Gate>(
 {
     match asked_of(alloc, words, source) {
         Asked::Commands { cut, list } => {
-            tell(sink, Status::Ok, run(rt, alloc, gate, cut, &list))
+            tell(sink, Status::Ok, run(On { rt, gate, cut }, alloc, &list))
         }
         Asked::Bad(bad) => tell(sink, Status::BadRecord, error_text(alloc, &bad)),
         Asked::Ended(status) => status,

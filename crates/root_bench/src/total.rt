@@ -3,7 +3,7 @@ ghost use Rattle.std.specs.Prelude.{◌≡◌, fold};
 ghost use Rattle.root_bench.specs.Sums.{sum_up};
 
 use aug_monoid::{NoMemory, Share};
-use fork_join::{Cut, FreeGate, fork2};
+use fork_join::{Cut, FreeGate, On, fork2};
 use std::alloc::Global;
 use std::marker::{Model, Sync};
 use std::thread::Threads;
@@ -46,21 +46,20 @@ impl State for Total {
 
     fn change<R: Threads + Sync>(
         &self,
-        rt: &R,
+        on: On<R, FreeGate>,
         _alloc: Global,
-        cut: Cut,
         batches: &[Batch<u64>],
     ) -> Result<Total, NoMemory> {
         let mut total = self.total;
         for batch in batches {
-            total = with_all(rt, cut, total, batch.ops());
+            total = with_all(on, total, batch.ops());
         }
         Ok(Total::new(total))
     }
 }
 
 /// The total with all numbers added, which are taken in two halves where the cut allows it.
-fn with_all<R: Threads + Sync>(rt: &R, cut: Cut, total: u64, numbers: &[u64]) -> u64
+fn with_all<R: Threads + Sync>(on: On<R, FreeGate>, total: u64, numbers: &[u64]) -> u64
     ensures { result ≡ fold sum_up total numbers.now }
 {
     let (front, back) = numbers.split_at(numbers.len() / 2);
@@ -71,7 +70,7 @@ fn with_all<R: Threads + Sync>(rt: &R, cut: Cut, total: u64, numbers: &[u64]) ->
         ensures { result ≡ fold sum_up 0 back.entry.now }
     { added(0, back) };
     let size = numbers.len() as u64;
-    let (first, second) = fork2(rt, &FreeGate, cut, size, left, right);
+    let (first, second) = fork2(on.rt, on.gate, on.cut, size, left, right);
     first.saturating_add(second)
 }
 

@@ -16,7 +16,7 @@ use crate::reads::{Reading, read_places, readings};
 use crate::replay::are_right;
 use crate::verdict::Verdict;
 use aug_monoid::NoMemory;
-use fork_join::{Cut, Gate};
+use fork_join::{Gate, On};
 use run_text::{Told, parts_told};
 use serve_text::{Answers, Record};
 use std::alloc::Global;
@@ -53,10 +53,8 @@ fn broken_point<O: Drop, Q: Drop>(
 
 /// The verdict on a text of the form of a run, which tells this of the reads and the batches.
 fn judged<S: Answers, R: Threads + Sync, G: Gate>(
-    rt: &R,
+    on: On<R, G>,
     alloc: Global,
-    gate: &G,
-    cut: Cut,
     base: S,
     records: &[Record<S::Op, S::Query>],
     callers: u32,
@@ -85,10 +83,8 @@ fn judged<S: Answers, R: Threads + Sync, G: Gate>(
     }
     let batches = batches_of(alloc, ordered)?;
     if are_right(
-        rt,
+        on,
         alloc,
-        gate,
-        cut,
         base,
         batches.as_slice(),
         reads,
@@ -109,10 +105,8 @@ fn judged<S: Answers, R: Threads + Sync, G: Gate>(
 /// versions. The state's own changes fork within the cut, and nothing enters the gate. It compares each answer with that of the text as it is
 /// made, and keeps none.
 pub fn check<S: Answers, R: Threads + Sync, G: Gate>(
-    rt: &R,
+    on: On<R, G>,
     alloc: Global,
-    gate: &G,
-    cut: Cut,
     base: S,
     records: &[Record<S::Op, S::Query>],
     callers: u32,
@@ -128,16 +122,6 @@ pub fn check<S: Answers, R: Threads + Sync, G: Gate>(
         return Ok(Verdict::No { point: 0 });
     };
     let reads = readings(alloc, records, told.replies.as_slice())?;
-    let verdict = judged(
-        rt,
-        alloc,
-        gate,
-        cut,
-        base,
-        records,
-        callers,
-        reads.as_slice(),
-        &told,
-    )?;
+    let verdict = judged(on, alloc, base, records, callers, reads.as_slice(), &told)?;
     Ok(verdict)
 }

@@ -8,7 +8,7 @@ ghost use Rattle.run_check.specs.Turns.{AreTurns};
 use crate::reads::Reading;
 use crate::turns::{Turn, sorted_turns};
 use aug_monoid::NoMemory;
-use fork_join::{Cut, Gate};
+use fork_join::{Gate, On};
 use run_text::Reply;
 use serve_text::Answers;
 use std::alloc::Global;
@@ -25,10 +25,8 @@ struct Standing<S: Answers> {
 
 /// The state after so many of the batches: those that it lacks are applied at once.
 fn advanced<S: Answers, R: Threads + Sync, G: Gate>(
-    rt: &R,
+    on: On<R, G>,
     alloc: Global,
-    gate: &G,
-    cut: Cut,
     standing: Standing<S>,
     batches: &[Batch<S::Op>],
     number: u64,
@@ -46,7 +44,7 @@ fn advanced<S: Answers, R: Threads + Sync, G: Gate>(
         return Ok(Standing { state, number });
     }
     let lacking = &batches[done as usize..number as usize];
-    let state = state.applied(rt, alloc, gate, cut, lacking)?;
+    let state = state.changed(on.free(), alloc, lacking)?;
     Ok(Standing { state, number })
 }
 
@@ -76,10 +74,8 @@ fn is_last_line<S: Answers>(alloc: Global, state: &S, last: &[u8]) -> Result<boo
 
 /// One read: the state goes on to its number. None where the line tells another answer than the state's.
 fn take_turn<S: Answers, R: Threads + Sync, G: Gate>(
-    rt: &R,
+    on: On<R, G>,
     alloc: Global,
-    gate: &G,
-    cut: Cut,
     batches: &[Batch<S::Op>],
     read: &Reading<'_, S::Query>,
     reply: &Reply<'_>,
@@ -90,7 +86,7 @@ fn take_turn<S: Answers, R: Threads + Sync, G: Gate>(
     requires most { read.now.number ≤ length batches.now }
     ensures { IfOk result (λ o. MatchOption o (reply.now.answer ≢ S.answer_of (after S.step standing.state (between standing.number read.now.number batches.now)) read.now.asked.query) (λ next. (next.number ≡ read.now.number) × (next.state ≡ after S.step standing.state (between standing.number read.now.number batches.now)) × (reply.now.answer ≡ S.answer_of next.state read.now.asked.query))) }
 {
-    let next = advanced(rt, alloc, gate, cut, standing, batches, read.number)?;
+    let next = advanced(on, alloc, standing, batches, read.number)?;
     if is_answer(alloc, &next.state, read.query, reply.answer, buffer)? {
         Ok(Some(next))
     } else {
@@ -100,10 +96,8 @@ fn take_turn<S: Answers, R: Threads + Sync, G: Gate>(
 
 /// The reads in the order of their numbers: the state of the last of them. None where the line of one tells another answer than its own.
 fn take_turns<S: Answers, R: Threads + Sync, G: Gate>(
-    rt: &R,
+    on: On<R, G>,
     alloc: Global,
-    gate: &G,
-    cut: Cut,
     base: S,
     batches: &[Batch<S::Op>],
     reads: &[Reading<'_, S::Query>],
@@ -122,10 +116,8 @@ fn take_turns<S: Answers, R: Threads + Sync, G: Gate>(
     let mut buffer = Vec::new(alloc);
     for turn in turns {
         let Some(next) = take_turn(
-            rt,
+            on,
             alloc,
-            gate,
-            cut,
             batches,
             &reads[turn.at],
             &replies[turn.at],
@@ -142,10 +134,8 @@ fn take_turns<S: Answers, R: Threads + Sync, G: Gate>(
 
 /// Whether the last line is that of the state after all batches.
 fn ends_right<S: Answers, R: Threads + Sync, G: Gate>(
-    rt: &R,
+    on: On<R, G>,
     alloc: Global,
-    gate: &G,
-    cut: Cut,
     standing: Standing<S>,
     batches: &[Batch<S::Op>],
     last: &[u8],
@@ -153,25 +143,15 @@ fn ends_right<S: Answers, R: Threads + Sync, G: Gate>(
     requires { standing.number ≤ length batches.now }
     ensures { IfOk result (λ right. IsTrue right ↔ (last.now ≡ S.last_of (after S.step standing.state (drop standing.number batches.now)))) }
 {
-    let all = advanced(
-        rt,
-        alloc,
-        gate,
-        cut,
-        standing,
-        batches,
-        batches.len() as u64,
-    )?;
+    let all = advanced(on, alloc, standing, batches, batches.len() as u64)?;
     is_last_line(alloc, &all.state, last)
 }
 
 /// Whether the lines tell what the reads are answered, and the last line is right. The batches between two of the reads' versions are applied
 /// at once, each batch once, to the one state that there is, which a read asks when it has as many batches as the read's number says.
 pub(crate) fn are_right<S: Answers, R: Threads + Sync, G: Gate>(
-    rt: &R,
+    on: On<R, G>,
     alloc: Global,
-    gate: &G,
-    cut: Cut,
     base: S,
     batches: &[Batch<S::Op>],
     reads: &[Reading<'_, S::Query>],
@@ -183,19 +163,9 @@ pub(crate) fn are_right<S: Answers, R: Threads + Sync, G: Gate>(
     ensures { IfOk result (λ right. IsTrue right ↔ AreRight S.step S.answer_of S.last_of base batches.now reads.now replies.now last.now) }
 {
     let turns = sorted_turns(alloc, reads)?;
-    let Some(standing) = take_turns(
-        rt,
-        alloc,
-        gate,
-        cut,
-        base,
-        batches,
-        reads,
-        replies,
-        turns.as_slice(),
-    )?
+    let Some(standing) = take_turns(on, alloc, base, batches, reads, replies, turns.as_slice())?
     else {
         return Ok(false);
     };
-    ends_right(rt, alloc, gate, cut, standing, batches, last)
+    ends_right(on, alloc, standing, batches, last)
 }

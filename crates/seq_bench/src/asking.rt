@@ -1,5 +1,6 @@
 //! Many questions to one sequence.
-ghost use Rattle.std.specs.Prelude.{◌≡◌, ◌<◌};
+
+ghost use Rattle.aug_monoid.specs.Fresh.{IsFresh};
 
 use crate::Numbered;
 use crate::checksum::Checksum;
@@ -39,9 +40,7 @@ fn ask_for_sums<C: Ledger>(
     numbers: &mut Numbers,
     blank: Blank,
 ) -> u64
-    requires name { blank.name ≡ C.name }
-    requires parts { blank.parts ≡ C.parts }
-    requires some { 0 < blank.parts }
+    requires { IsFresh C.name C.parts blank }
 {
     let mut steps = Steps::<C>::start(blank);
     let mut checksum = Checksum::new();

@@ -12,7 +12,7 @@ mod numbers;
 mod timed;
 
 use anyhow::{Context, Result, bail};
-use fork_join::Cut;
+use fork_join::{Cut, FreeGate, On};
 use pac_seq::{Seq, SumTop};
 use std::alloc::Global;
 use std::env;
@@ -34,19 +34,18 @@ fn cut_of(workers: u32) -> Result<Cut> {
 
 // Does the operation of a name.
 fn run<R: Threads + Clock + Sync>(
-    rt: &R,
+    on: On<R, FreeGate>,
     alloc: Global,
     name: &str,
     size: u64,
     seed: u64,
-    cut: Cut,
 ) -> Result<Timed> {
     match name {
-        "build" => making::time_build(rt, alloc, size, seed),
-        "append" => making::time_append(rt, alloc, size, seed),
-        "reverse" => making::time_reverse(rt, alloc, size, seed, cut),
-        "at" => asking::time_at(rt, alloc, size, seed),
-        "fold" => asking::time_fold(rt, alloc, size, seed),
+        "build" => making::time_build(on.rt, alloc, size, seed),
+        "append" => making::time_append(on.rt, alloc, size, seed),
+        "reverse" => making::time_reverse(on, alloc, size, seed),
+        "at" => asking::time_at(on.rt, alloc, size, seed),
+        "fold" => asking::time_fold(on.rt, alloc, size, seed),
         _ => bail!("no such operation"),
     }
 }
@@ -60,8 +59,12 @@ fn main(rt: HostRuntime) -> Result<()> {
         Some(workers) => workers.parse()?,
         None => 1,
     };
-    let cut = cut_of(workers)?;
-    let timed = run(&rt, rt.alloc(), &name, size.parse()?, seed.parse()?, cut)?;
+    let on = On {
+        rt: &rt,
+        gate: &FreeGate,
+        cut: cut_of(workers)?,
+    };
+    let timed = run(on, rt.alloc(), &name, size.parse()?, seed.parse()?)?;
     println!(rt; "{}", timed.checksum)?;
     eprintln!(rt; "{}", timed.nanoseconds)?;
     Ok(())

@@ -6,7 +6,7 @@ use crate::numbers::Numbers;
 use crate::timed::{Timed, made, since};
 use anyhow::Result;
 use aug_monoid::NoMemory;
-use fork_join::{Cut, FreeGate};
+use fork_join::{FreeGate, On};
 use std::alloc::Global;
 use std::marker::Sync;
 use std::rt::Clock;
@@ -36,16 +36,15 @@ pub(crate) fn time_build(rt: &impl Clock, alloc: Global, size: u64, seed: u64) -
 
 /// Turns a sequence round.
 pub(crate) fn time_reverse<R: Threads + Clock + Sync>(
-    rt: &R,
+    on: On<R, FreeGate>,
     alloc: Global,
     size: u64,
     seed: u64,
-    cut: Cut,
 ) -> Result<Timed> {
     let seq = random_seq(alloc, &mut Numbers::new(seed), size)?;
-    let start = Instant::now(rt)?;
-    let turned = seq.reverse(rt, alloc, &FreeGate, cut)?;
-    made(rt, start, &turned)
+    let start = Instant::now(on.rt)?;
+    let turned = seq.reverse(on.rt, alloc, on.gate, on.cut)?;
+    made(on.rt, start, &turned)
 }
 
 fn pieces_of(alloc: Global, numbers: &mut Numbers, size: u64) -> Result<Vec<Numbered>, NoMemory> {

@@ -1,6 +1,7 @@
 //! Items in slices.
-ghost use Rattle.std.specs.Prelude.{◌≡◌, ◌+◌, ◌<◌, ◌≤◌, ◌++◌, IfOk, length};
+ghost use Rattle.std.specs.Prelude.{◌≡◌, ◌+◌, ◌≤◌, ◌++◌, IfOk, length};
 ghost use Rattle.seq_core.specs.Sums.{sum_of};
+ghost use Rattle.aug_monoid.specs.Fresh.{IsFresh};
 
 use crate::fold::Fold;
 use aug_monoid::{NoMemory, Share, Steps};
@@ -70,9 +71,7 @@ pub fn sum_items<F: Fold, C: Ledger>(items: &[F::Item], steps: &mut Steps<C>) ->
 
 /// The sum of items, with a counter of its own.
 fn sum_counted<F: Fold, C: Ledger>(items: &[F::Item], blank: Blank) -> F::Sum
-    requires name { blank.name ≡ C.name }
-    requires parts { blank.parts ≡ C.parts }
-    requires some { 0 < blank.parts }
+    requires { IsFresh C.name C.parts blank }
     ensures { result ≡ sum_of F.image_of F.unit_of F.combined items.now }
 {
     let mut steps = Steps::<C>::start(blank);
@@ -93,9 +92,7 @@ fn around_counted<F: Fold, C: Ledger>(
     right: &F::Sum,
     blank: Blank,
 ) -> F::Sum
-    requires name { blank.name ≡ C.name }
-    requires parts { blank.parts ≡ C.parts }
-    requires some { 0 < blank.parts }
+    requires { IsFresh C.name C.parts blank }
     ensures { result ≡ F.combined (F.combined left.now (F.image_of item.now)) right.now }
 {
     let mut steps = Steps::<C>::start(blank);

@@ -1,6 +1,7 @@
 //! Sums of runs, each with a counter of its own.
-ghost use Rattle.std.specs.Prelude.{◌≡◌, ◌<◌, take, drop};
+ghost use Rattle.std.specs.Prelude.{◌≡◌, take, drop};
 ghost use Rattle.seq_handle.specs.Totals.{totals_of};
+ghost use Rattle.aug_monoid.specs.Fresh.{IsFresh};
 
 use crate::inner::Numbers;
 use aug_monoid::{Steps, Totals};
@@ -15,9 +16,7 @@ pub(crate) fn run_totals<C: Ledger>(
     count: u64,
     blank: Blank,
 ) -> Totals
-    requires name { blank.name ≡ C.name }
-    requires parts { blank.parts ≡ C.parts }
-    requires some { 0 < blank.parts }
+    requires { IsFresh C.name C.parts blank }
     ensures { result ≡ totals_of (take count (drop from seq.now.items)) }
 {
     let mut steps = Steps::<C>::start(blank);

@@ -1,5 +1,6 @@
 //! Each call once, with answers that are known from outside.
-ghost use Rattle.std.specs.Prelude.{◌≡◌, ◌<◌};
+
+ghost use Rattle.aug_monoid.specs.Fresh.{IsFresh};
 
 use crate::lists::listed;
 use aug_monoid::{NoMemory, Pair64, Share, Steps, Totals};
@@ -22,9 +23,7 @@ fn doubled(alloc: Global) -> Result<Numbers, NoMemory> {
 
 /// What all items sum up to, the first three after the first one, and all after the first four.
 fn sums_counted<C: Ledger>(alloc: Global, seq: &Numbers, blank: Blank) -> (Totals, Totals, Totals)
-    requires name { blank.name ≡ C.name }
-    requires parts { blank.parts ≡ C.parts }
-    requires some { 0 < blank.parts }
+    requires { IsFresh C.name C.parts blank }
 {
     let mut steps = Steps::<C>::start(blank);
     let inner = seq.reduce(alloc, 1, 3, &mut steps);

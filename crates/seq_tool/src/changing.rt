@@ -6,7 +6,7 @@ ghost use Rattle.seq_tool.specs.Registers.{lists_of, register};
 use crate::change::{Change, no_change};
 use crate::registers::{Register, seq_at};
 use aug_monoid::NoMemory;
-use fork_join::{Cut, Gate};
+use fork_join::{Gate, On};
 use std::alloc::Global;
 use std::marker::Sync;
 use std::thread::Threads;
@@ -79,10 +79,8 @@ pub(crate) fn set(
 
 /// The items of a register from the last to the first.
 pub(crate) fn reverse<R: Threads + Sync, G: Gate>(
-    rt: &R,
+    on: On<R, G>,
     alloc: Global,
-    gate: &G,
-    cut: Cut,
     registers: &[Register],
     m: u64,
 ) -> Result<Register, NoMemory>
@@ -90,5 +88,5 @@ pub(crate) fn reverse<R: Threads + Sync, G: Gate>(
     requires low { m < 16 }
     ensures { IfOk result (λ seq. seq.items ≡ reverse (register (lists_of registers.now) m)) }
 {
-    seq_at(registers, m).reverse(rt, alloc, gate, cut)
+    seq_at(registers, m).reverse(on.rt, alloc, on.gate, on.cut)
 }

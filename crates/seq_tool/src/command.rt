@@ -1,10 +1,11 @@
 //! Commands of the tool seq, one and many.
-ghost use Rattle.std.specs.Prelude.{◌≡◌, ◌<◌, ◌++◌, length, IfOk, OnErr, OnOk};
+ghost use Rattle.std.specs.Prelude.{◌≡◌, ◌++◌, length, IfOk, OnErr, OnOk};
 ghost use Rattle.std.specs.List.{AllByRecursion};
 ghost use Rattle.script.specs.Replies.{replies};
 ghost use Rattle.seq_tool.specs.SeqRecords.{NamesRegisters};
 ghost use Rattle.seq_tool.specs.Effects.{IsEffect, effect, seq_after, seq_reply};
 ghost use Rattle.seq_tool.specs.Registers.{empty_registers, lists_of};
+ghost use Rattle.aug_monoid.specs.Fresh.{IsFresh};
 
 use crate::SeqCommand;
 use crate::asking::{at, fold, list, size};
@@ -12,7 +13,7 @@ use crate::change::Change;
 use crate::changing::{append, push, reverse, set};
 use crate::registers::{Register, empty_registers, seq_at, store};
 use aug_monoid::{NoMemory, Steps};
-use fork_join::{Cut, Gate};
+use fork_join::{Gate, On};
 use script::line;
 use std::alloc::Global;
 use std::marker::{Brand, Sync};
@@ -21,10 +22,8 @@ use std::thread::Threads;
 
 // What a command changes; where it changes nothing, its reply is appended.
 fn effect_of<R: Threads + Sync, G: Gate, C: Ledger>(
-    rt: &R,
+    on: On<R, G>,
     alloc: Global,
-    gate: &G,
-    cut: Cut,
     registers: &[Register],
     command: &SeqCommand,
     steps: &mut Steps<C>,
@@ -47,7 +46,7 @@ fn effect_of<R: Threads + Sync, G: Gate, C: Ledger>(
             Ok(Some(Change { d: *d, seq }))
         }
         SeqCommand::Reverse { d, m, .. } => {
-            let seq = reverse(rt, alloc, gate, cut, registers, *m)?;
+            let seq = reverse(on, alloc, registers, *m)?;
             Ok(Some(Change { d: *d, seq }))
         }
         SeqCommand::At { m, i, .. } => {
@@ -71,10 +70,8 @@ fn effect_of<R: Threads + Sync, G: Gate, C: Ledger>(
 
 // Runs one command, and appends its reply. A refusal leaves the registers as they were.
 fn run_command<R: Threads + Sync, G: Gate, C: Ledger>(
-    rt: &R,
+    on: On<R, G>,
     alloc: Global,
-    gate: &G,
-    cut: Cut,
     registers: &mut [Register],
     command: &SeqCommand,
     steps: &mut Steps<C>,
@@ -87,7 +84,7 @@ fn run_command<R: Threads + Sync, G: Gate, C: Ledger>(
     ensures refused { OnErr result (registers.new ≡ registers.old) }
     ensures count { length registers.new ≡ 16 }
 {
-    match effect_of(rt, alloc, gate, cut, registers, command, steps, text)? {
+    match effect_of(on, alloc, registers, command, steps, text)? {
         None => Ok(()),
         Some(Change { d, seq }) => {
             line(text, "ok", &[seq.size()])?;
@@ -99,10 +96,8 @@ fn run_command<R: Threads + Sync, G: Gate, C: Ledger>(
 
 // Runs commands in order, and answers their replies.
 fn run_all<R: Threads + Sync, G: Gate, C: Ledger>(
-    rt: &R,
+    on: On<R, G>,
     alloc: Global,
-    gate: &G,
-    cut: Cut,
     registers: &mut [Register],
     commands: &[SeqCommand],
     steps: &mut Steps<C>,
@@ -113,43 +108,37 @@ fn run_all<R: Threads + Sync, G: Gate, C: Ledger>(
 {
     let mut text = Vec::new(alloc);
     for command in commands {
-        run_command(rt, alloc, gate, cut, registers, command, steps, &mut text)?;
+        run_command(on, alloc, registers, command, steps, &mut text)?;
     }
     Ok(text)
 }
 
 // Runs commands on empty registers, and counts no steps.
 fn run_counted<R: Threads + Sync, G: Gate, C: Ledger>(
-    rt: &R,
+    on: On<R, G>,
     alloc: Global,
-    gate: &G,
-    cut: Cut,
     commands: &[SeqCommand],
     blank: Blank,
 ) -> Result<Vec<u8>, NoMemory>
     requires low { AllByRecursion NamesRegisters commands.now }
-    requires name { blank.name ≡ C.name }
-    requires parts { blank.parts ≡ C.parts }
-    requires some { 0 < blank.parts }
+    requires fresh { IsFresh C.name C.parts blank }
     ensures { IfOk result (λ text. text.items ≡ replies seq_reply seq_after empty_registers commands.now) }
 {
     let mut registers = empty_registers(alloc)?;
     let mut steps = Steps::<C>::start(blank);
-    run_all(rt, alloc, gate, cut, &mut registers, commands, &mut steps)
+    run_all(on, alloc, &mut registers, commands, &mut steps)
 }
 
 /// The replies to commands of the tool seq, run in order from empty registers. They depend neither on the runtime nor on the gate
 /// nor on the cut, and want of memory alone refuses. A command copies paths and blocks, in time linear in the heights, a push also
 /// in the number of its items, a list in that of the items that it has, and `reverse` in that of its register.
 pub fn run_seq<R: Threads + Sync, G: Gate>(
-    rt: &R,
+    on: On<R, G>,
     alloc: Global,
-    gate: &G,
-    cut: Cut,
     commands: &[SeqCommand],
 ) -> Result<Vec<u8>, NoMemory>
     requires { AllByRecursion NamesRegisters commands.now }
     ensures { IfOk result (λ text. text.items ≡ replies seq_reply seq_after empty_registers commands.now) }
 {
-    run_counted::<R, G, Brand>(rt, alloc, gate, cut, commands, Blank::new(1))
+    run_counted::<R, G, Brand>(on, alloc, commands, Blank::new(1))
 }

@@ -1,5 +1,5 @@
 //! What a served map answers.
-ghost use Rattle.std.specs.Prelude.{◌≡◌, ◌<◌, ◌++◌, ◌∷◌, [], IfOk, MatchResult, length};
+ghost use Rattle.std.specs.Prelude.{◌≡◌, ◌++◌, ◌∷◌, [], IfOk, MatchResult, length};
 ghost use Rattle.std.specs.Ordering.{nat_cmp};
 ghost use Rattle.map_model.specs.Entries.{lookup};
 ghost use Rattle.map_model.specs.Parts.{rank};
@@ -7,6 +7,7 @@ ghost use Rattle.serve_answers.specs.Answering as answering;
 ghost use Rattle.serve_answers.specs.Answering.{answer_of, last_of, range_totals, totals_of};
 ghost use Rattle.script.specs.Lines.{reply_of};
 ghost use Rattle.serve_text.specs.Texts.{Extends};
+ghost use Rattle.aug_monoid.specs.Fresh.{IsFresh};
 
 use crate::served::ServedMap;
 use aug_map::PlainMap;
@@ -85,9 +86,7 @@ fn answer<C: Ledger>(
     out: &mut Vec<u8>,
     blank: Blank,
 ) -> Result<(), NoMemory>
-    requires name { blank.name ≡ C.name }
-    requires parts { blank.parts ≡ C.parts }
-    requires some { 0 < blank.parts }
+    requires { IsFresh C.name C.parts blank }
     ensures { MatchResult result (λ _. out.new.items ≡ out.old.items ++ answer_of map.now.entries query.now) (λ _. Extends out.old.items out.new.items) }
 {
     let mut steps = Steps::<C>::start(blank);

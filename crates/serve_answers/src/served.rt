@@ -4,7 +4,7 @@ ghost use Rattle.op_runs.specs.Steps.{step};
 
 use aug_map::PlainMap;
 use aug_monoid::{NoMemory, Share, SumMax};
-use fork_join::Cut;
+use fork_join::{FreeGate, On};
 use served_map::{Op, Served};
 use std::alloc::Global;
 use std::marker::{Model, Sync};
@@ -67,24 +67,22 @@ impl State for ServedMap {
 
     fn change<R: Threads + Sync>(
         &self,
-        rt: &R,
+        on: On<R, FreeGate>,
         alloc: Global,
-        cut: Cut,
         batches: &[Batch<Op>],
     ) -> Result<ServedMap, NoMemory> {
-        let served = self.served.change(rt, alloc, cut, batches)?;
+        let served = self.served.change(on, alloc, batches)?;
         Ok(ServedMap { served })
     }
 
     fn changed<R: Threads + Sync>(
         self,
-        rt: &R,
+        on: On<R, FreeGate>,
         alloc: Global,
-        cut: Cut,
         batches: &[Batch<Op>],
     ) -> Result<ServedMap, NoMemory> {
         let ServedMap { served } = self;
-        let served = served.changed(rt, alloc, cut, batches)?;
+        let served = served.changed(on, alloc, batches)?;
         Ok(ServedMap { served })
     }
 }

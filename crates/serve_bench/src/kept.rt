@@ -5,7 +5,7 @@ use crate::timed::{Timed, told};
 use anyhow::{Context, Result};
 use aug_monoid::NoMemory;
 use batch_store::{Batch, Caller, Refused, Store, Version};
-use fork_join::{Cut, FreeGate};
+use fork_join::{FreeGate, On};
 use op_runs::Op;
 use serve_answers::ServedMap;
 use serve_text::Answers;
@@ -63,29 +63,27 @@ impl Alone {
     /// Publishes a version with one more batch, which puts the pairs.
     fn publish<R: Threads + Wait + Sync>(
         &mut self,
-        rt: &R,
+        on: On<R, FreeGate>,
         alloc: Global,
-        cut: Cut,
         pairs: &[(u64, u64)],
     ) -> Result<(), NoMemory> {
         let batch = batch_of(alloc, pairs)?;
         if let Err(Refused { value: _, cause }) = self.caller.submit(0, batch) {
             return Err(cause);
         }
-        self.store.turn(rt, alloc, &FreeGate, cut)?;
+        self.store.turn(on.rt, alloc, on.gate, on.cut)?;
         Ok(())
     }
 
     /// Publishes one version after another until the map has the entries.
     fn fill<R: Threads + Wait + Sync>(
         &mut self,
-        rt: &R,
+        on: On<R, FreeGate>,
         alloc: Global,
-        cut: Cut,
         entries: &[(u64, u64)],
     ) -> Result<(), NoMemory> {
         for pairs in entries.chunks(ENTRIES_AT_ONCE) {
-            self.publish(rt, alloc, cut, pairs)?;
+            self.publish(on, alloc, pairs)?;
         }
         Ok(())
     }
@@ -94,17 +92,16 @@ impl Alone {
     /// own, since bench/in_use.c does not count large blocks.
     fn keep<R: Threads + Wait + Sync>(
         &mut self,
-        rt: &R,
+        on: On<R, FreeGate>,
         alloc: Global,
-        cut: Cut,
         numbers: &mut Numbers,
         count: usize,
     ) -> Result<Vec<Box<Version<ServedMap>>>, NoMemory> {
         let mut kept = Vec::with_capacity(alloc, count)?;
         for _ in 0..count {
             let change = (numbers.below(ENTRIES), numbers.below(VALUES));
-            self.publish(rt, alloc, cut, &[change])?;
-            let version = self.caller.snapshot(rt, alloc)?;
+            self.publish(on, alloc, &[change])?;
+            let version = self.caller.snapshot(on.rt, alloc)?;
             kept.push(Box::new(alloc, version)?)?;
         }
         Ok(kept)
@@ -121,19 +118,18 @@ impl Alone {
 
 /// Changes the values of so many keys one after another, and keeps each version.
 pub(crate) fn time<R: Threads + Wait + Sync + Clock>(
-    rt: &R,
+    on: On<R, FreeGate>,
     alloc: Global,
-    cut: Cut,
     count: usize,
 ) -> Result<Timed> {
     let mut numbers = Numbers::new(1);
     let entries = entries(alloc, &mut numbers)?;
     let mut alone = start_alone(alloc)?;
-    alone.fill(rt, alloc, cut, &entries)?;
-    let start = Instant::now(rt)?;
-    let kept = alone.keep(rt, alloc, cut, &mut numbers, count)?;
-    let nanoseconds = start.elapsed(rt)?.as_nanos();
-    let last = alone.last(rt, alloc)?;
+    alone.fill(on, alloc, &entries)?;
+    let start = Instant::now(on.rt)?;
+    let kept = alone.keep(on, alloc, &mut numbers, count)?;
+    let nanoseconds = start.elapsed(on.rt)?.as_nanos();
+    let last = alone.last(on.rt, alloc)?;
     // The last large block: where it is freed, bench/in_use.c tells what all versions take.
     drop(entries);
     drop(kept);

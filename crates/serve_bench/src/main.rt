@@ -11,7 +11,7 @@ mod rounds;
 mod timed;
 
 use anyhow::{Context, Result, bail};
-use fork_join::Cut;
+use fork_join::{Cut, FreeGate, On};
 use std::alloc::Global;
 use std::io::Read;
 use std::{env, io};
@@ -35,12 +35,17 @@ fn main(rt: HostRuntime) -> Result<()> {
     let mut words = env::args(&rt)?.skip(1);
     let name = words.next().context("an operation is wanted")?;
     let number = words.next().context("a number is wanted")?;
+    let alone = On {
+        rt: &rt,
+        gate: &FreeGate,
+        cut: cut_of(1)?,
+    };
     let timed = match name.as_str() {
         "rounds" => {
             let bytes = input(&rt, rt.alloc())?;
-            rounds::time(&rt, rt.alloc(), cut_of(number.parse()?)?, &bytes)?
+            rounds::time(alone.with(cut_of(number.parse()?)?), rt.alloc(), &bytes)?
         }
-        "kept" => kept::time(&rt, rt.alloc(), cut_of(1)?, number.parse()?)?,
+        "kept" => kept::time(alone, rt.alloc(), number.parse()?)?,
         _ => bail!("no such operation"),
     };
     println!(rt; "{}", timed.last)?;

@@ -6,7 +6,7 @@ use crate::timed::{Timed, told};
 use anyhow::Result;
 use aug_monoid::NoMemory;
 use batch_store::Store;
-use fork_join::{Cut, FreeGate};
+use fork_join::{FreeGate, On};
 use op_runs::Op;
 use serve_answers::ServedMap;
 use serve_rounds::{finish, run_rounds};
@@ -21,9 +21,8 @@ use std::time::Instant;
 
 /// The text of the records of so many callers, served from an empty map on.
 fn served<R: Threads + Wait + Sync>(
-    rt: &R,
+    on: On<R, FreeGate>,
     alloc: Global,
-    cut: Cut,
     callers: u32,
     records: &[Record<Op, ServeQuery>],
 ) -> Result<Vec<u8>, NoMemory>
@@ -31,22 +30,21 @@ fn served<R: Threads + Wait + Sync>(
     requires rounds { AreInRounds callers records.now }
 {
     let (store, callers) = Store::start(alloc, ServedMap::new(), callers)?;
-    let served = run_rounds(rt, alloc, &FreeGate, cut, store, callers, records)?;
-    finish(rt, alloc, &FreeGate, cut, served)
+    let served = run_rounds(on, alloc, store, callers, records)?;
+    finish(on, alloc, served)
 }
 
 /// Runs the rounds of an input's records.
 pub(crate) fn time<R: Threads + Wait + Sync + Clock>(
-    rt: &R,
+    on: On<R, FreeGate>,
     alloc: Global,
-    cut: Cut,
     bytes: &[u8],
 ) -> Result<Timed> {
     let commands = served_commands::<ServeOp, ServeQuery>(alloc, bytes)?;
     let records: Vec<Record<Op, ServeQuery>> = serve_input::records(alloc, commands.items())?;
     let callers = serve_input::callers(commands.items());
-    let start = Instant::now(rt)?;
-    let text = served(rt, alloc, cut, callers, &records)?;
-    let nanoseconds = start.elapsed(rt)?.as_nanos();
+    let start = Instant::now(on.rt)?;
+    let text = served(on, alloc, callers, &records)?;
+    let nanoseconds = start.elapsed(on.rt)?.as_nanos();
     told(alloc, &text, nanoseconds)
 }

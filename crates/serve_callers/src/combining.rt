@@ -5,7 +5,7 @@ ghost use Rattle.batch_store.specs.Keeping.{SameStore};
 
 use aug_monoid::NoMemory;
 use batch_store::{State, Store};
-use fork_join::{Cut, Gate};
+use fork_join::{Gate, On};
 use std::alloc::Global;
 use std::marker::Sync;
 use std::sync::Wait;
@@ -13,10 +13,8 @@ use std::thread::Threads;
 
 /// So many turns of the store. It waits for no caller.
 pub fn combine<S: State, R: Threads + Wait + Sync, G: Gate>(
-    rt: &R,
+    on: On<R, G>,
     alloc: Global,
-    gate: &G,
-    cut: Cut,
     store: Store<S>,
     turns: u64,
 ) -> Result<Store<S>, NoMemory>
@@ -25,7 +23,7 @@ pub fn combine<S: State, R: Threads + Wait + Sync, G: Gate>(
 {
     let mut store = store;
     for _turn in 0..turns {
-        store.turn(rt, alloc, gate, cut)?;
+        store.turn(on.rt, alloc, on.gate, on.cut)?;
     }
     Ok(store)
 }

@@ -1,6 +1,6 @@
 //! Verdicts on texts of the tool gserve.
 use crate::worked::LAWFUL_GRAPHS;
-use fork_join::{Cut, FreeGate};
+use fork_join::{Cut, FreeGate, On};
 use gserve_check::{Verdict, check};
 use gserve_script::{EdgeOp, EdgeQuery};
 use serve_script::served_commands;
@@ -31,8 +31,12 @@ fn verdict_on<R: Threads + Sync>(
     text: &[u8],
 ) -> Result<Verdict, Fail> {
     let commands = served_commands::<EdgeOp, EdgeQuery>(alloc, input)?;
-    let cut = Cut::new(2, 1);
-    Ok(check(rt, alloc, &FreeGate, cut, commands.items(), text)?)
+    let on = On {
+        rt,
+        gate: &FreeGate,
+        cut: Cut::new(2, 1),
+    };
+    Ok(check(on, alloc, commands.items(), text)?)
 }
 
 /// Whether each of some texts is lawful for an input.

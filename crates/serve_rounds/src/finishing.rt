@@ -5,7 +5,7 @@ ghost use Rattle.serve_rounds.specs.Rounds.{IsBetweenRounds};
 
 use crate::served::Served;
 use aug_monoid::NoMemory;
-use fork_join::{Cut, Gate};
+use fork_join::{Gate, On};
 use serve_text::{Answers, write_rest};
 use std::alloc::Global;
 use std::marker::Sync;
@@ -15,10 +15,8 @@ use std::thread::Threads;
 /// The text with the order of the batches and the last line, from the version that the store's `finish` gives. It takes time linear
 /// in the number of batches, and may wait.
 pub fn finish<S: Answers, R: Threads + Wait + Sync, G: Gate>(
-    rt: &R,
+    on: On<R, G>,
     alloc: Global,
-    gate: &G,
-    cut: Cut,
     served: Served<S>,
 ) -> Result<Vec<u8>, NoMemory>
     requires { IsBetweenRounds served.store served.callers.items }
@@ -29,7 +27,7 @@ pub fn finish<S: Answers, R: Threads + Wait + Sync, G: Gate>(
         callers,
         text,
     } = served;
-    let Ok(version) = store.finish(rt, alloc, gate, cut, callers) else {
+    let Ok(version) = store.finish(on.rt, alloc, on.gate, on.cut, callers) else {
         return Err(NoMemory);
     };
     let mut text = text;

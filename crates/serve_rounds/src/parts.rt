@@ -8,7 +8,7 @@ use crate::ran::Ran;
 use crate::running::{Round, run_callers};
 use aug_monoid::NoMemory;
 use batch_store::{Caller, Store};
-use fork_join::{Cut, Gate};
+use fork_join::{Gate, On};
 use serve_callers::Lines;
 use serve_text::{Act, Answers, Record};
 use std::alloc::Global;
@@ -58,7 +58,7 @@ fn side_by_side<S: Answers, R: Threads + Wait + Sync, G: Gate>(
     ensures store { IfOk result.1 (λ stores. Follows store stores.items) }
 {
     let (stores, ran) = thread::join(
-        round.rt,
+        round.on.rt,
         move || -> Result<Vec<Store<S>>, NoMemory>
             ensures { IfOk result (λ stores. Follows store stores.items) }
         { round.turns_of_thread(alloc, store) },
@@ -115,10 +115,8 @@ fn run_one_by_one<S: Answers, R: Threads + Wait + Sync, G: Gate>(
 
 /// The callers and the combiner of a round. A thread for a single record would cost more than the record.
 pub(crate) fn run_parts<'a, S: Answers, R: Threads + Wait + Sync, G: Gate>(
-    rt: &'a R,
+    on: On<'a, R, G>,
     alloc: Global,
-    gate: &'a G,
-    cut: Cut,
     store: Store<S>,
     callers: Vec<Caller<S>>,
     records: &'a [Record<S::Op, S::Query>],
@@ -128,11 +126,9 @@ pub(crate) fn run_parts<'a, S: Answers, R: Threads + Wait + Sync, G: Gate>(
 {
     let busy = busy_callers(alloc, records, callers.len())?;
     let round = Round {
-        rt,
-        gate,
+        on,
         records,
         busy: busy.as_slice(),
-        cut,
         turns: turns_for(records),
     };
     let callers = VecDeque::from_vec(callers);

@@ -5,7 +5,7 @@ ghost use Rattle.serve_rounds.specs.Rounds.{IsBetweenRounds, PlaysRound};
 use crate::parts::{parted, run_parts};
 use crate::served::Served;
 use aug_monoid::NoMemory;
-use fork_join::{Cut, Gate};
+use fork_join::{Gate, On};
 use serve_callers::weave;
 use serve_text::{Answers, Record};
 use std::alloc::Global;
@@ -15,10 +15,8 @@ use std::thread::Threads;
 
 /// One round: its callers run beside the combiner, then the round ends, and the lines of its reads are written in record order.
 pub(crate) fn play_round<S: Answers, R: Threads + Wait + Sync, G: Gate>(
-    rt: &R,
+    on: On<R, G>,
     alloc: Global,
-    gate: &G,
-    cut: Cut,
     served: Served<S>,
     records: &[Record<S::Op, S::Query>],
 ) -> Result<Served<S>, NoMemory>
@@ -31,11 +29,11 @@ pub(crate) fn play_round<S: Answers, R: Threads + Wait + Sync, G: Gate>(
         callers,
         text,
     } = served;
-    let (store, ran) = run_parts(rt, alloc, gate, cut, store, callers, records)?;
+    let (store, ran) = run_parts(on, alloc, store, callers, records)?;
     let (callers, lines) = parted(alloc, ran)?;
     let mut store = store;
     let mut callers = callers;
-    store.end_round(rt, alloc, gate, cut, &mut callers)?;
+    store.end_round(on.rt, alloc, on.gate, on.cut, &mut callers)?;
     let mut lines = lines;
     let mut text = text;
     weave(records, &mut lines, &mut text)?;

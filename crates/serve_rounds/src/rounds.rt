@@ -9,7 +9,7 @@ use crate::round::play_round;
 use crate::served::Served;
 use aug_monoid::NoMemory;
 use batch_store::{Caller, Store};
-use fork_join::{Cut, Gate};
+use fork_join::{Gate, On};
 use serve_text::{Answers, Record};
 use std::alloc::Global;
 use std::marker::Sync;
@@ -35,10 +35,8 @@ fn round_length<O: Drop, Q: Drop>(first: u64, records: &[Record<O, Q>]) -> usize
 /// It enters the gate at 200 before each turn, at 201 after a turn that published, and at 256 + c before each read of caller c; what a
 /// state forks enters it nowhere. It may wait. On a refusal store and callers are dropped.
 pub fn run_rounds<S: Answers, R: Threads + Wait + Sync, G: Gate>(
-    rt: &R,
+    on: On<R, G>,
     alloc: Global,
-    gate: &G,
-    cut: Cut,
     store: Store<S>,
     callers: Vec<Caller<S>>,
     records: &[Record<S::Op, S::Query>],
@@ -55,7 +53,7 @@ pub fn run_rounds<S: Answers, R: Threads + Wait + Sync, G: Gate>(
     let mut left = records;
     while let Some(record) = left.first() {
         let (round, later) = left.split_at(round_length(record.round, left));
-        served = play_round(rt, alloc, gate, cut, served, round)?;
+        served = play_round(on, alloc, served, round)?;
         left = later;
     }
     Ok(served)

@@ -11,7 +11,7 @@ ghost use Rattle.serve_rounds.specs.Rounds.{Follows, HaveRun};
 use crate::ran::Ran;
 use aug_monoid::NoMemory;
 use batch_store::{Caller, Store};
-use fork_join::{Cut, Gate};
+use fork_join::{Gate, On};
 use serve_callers::{Lines, combine, run_caller};
 use serve_text::{Answers, Record};
 use std::alloc::Global;
@@ -21,14 +21,12 @@ use std::sync::Wait;
 use std::thread;
 use std::thread::Threads;
 
-/// A round: its records, which callers have some, how the combiner's work is cut, and how many turns it makes.
+/// A round: where it runs, its records, which callers have some, and how many turns the combiner makes.
 #[derive(Drop)]
 pub(crate) struct Round<'a, S: Answers, R, G> {
-    pub(crate) rt: &'a R,
-    pub(crate) gate: &'a G,
+    pub(crate) on: On<'a, R, G>,
     pub(crate) records: &'a [Record<S::Op, S::Query>],
     pub(crate) busy: &'a [bool],
-    pub(crate) cut: Cut,
     pub(crate) turns: u64,
 }
 
@@ -79,9 +77,9 @@ impl<'a, S: Answers, R: Wait, G: Gate> Round<'a, S, R, G> {
         let mut caller = caller;
         let mut lines = Lines::new(alloc);
         run_caller(
-            self.rt,
+            self.on.rt,
             alloc,
-            self.gate,
+            self.on.gate,
             self.records,
             &mut caller,
             &mut lines,
@@ -106,7 +104,7 @@ impl<'a, S: Answers, R: Threads + Wait + Sync, G: Gate> Round<'a, S, R, G> {
     pub(crate) fn make_turns(&self, alloc: Global, store: Store<S>) -> Result<Store<S>, NoMemory>
         ensures { IfOk result (λ later. SameStore store later × IsPrefix store.journal later.journal) }
     {
-        let later = combine(self.rt, alloc, self.gate, self.cut, store, self.turns)?;
+        let later = combine(self.on, alloc, store, self.turns)?;
         Ok(later)
     }
 
@@ -153,7 +151,7 @@ pub(crate) fn run_callers<S: Answers, R: Threads + Wait + Sync, G: Gate>(
     }
     let back = front.split_off(round.seam(&front, busy / 2))?;
     let (front, back) = thread::join(
-        round.rt,
+        round.on.rt,
         move || -> Result<Vec<Ran<S>>, NoMemory>
             requires { IsSync R.row × IsSync G.row }
             ensures { IfOk result (λ ran. HaveRun S.step S.answer_of round.entry.now.records.now front.items ran.items) }

@@ -11,7 +11,7 @@ ghost use Rattle.serve_tool.specs.Output.{IsServeOutput};
 
 use aug_monoid::NoMemory;
 use batch_store::{Caller, Store};
-use fork_join::{Cut, Gate};
+use fork_join::{Cut, Gate, On};
 use serve_answers::ServedMap;
 use serve_input::{callers, records};
 use serve_rounds::{Served, finish, run_rounds};
@@ -43,22 +43,20 @@ pub fn run_serve<R: Threads + Wait + Sync, G: Gate>(
     ensures { IfOk result (λ served. HasServed step answer_of (records_of op_of commands.now) store served.store callers.items served.callers.items served.text.items) }
 {
     let records = records(alloc, commands)?;
-    run_rounds(rt, alloc, gate, cut, store, callers, &records)
+    run_rounds(On { rt, gate, cut }, alloc, store, callers, &records)
 }
 
 /// The text of the commands, run on an empty map by callers of their own. An input has many lawful texts, and it depends on the
 /// threads which of them this is. It enters the gate and may wait as `run_serve` does, and is refused only where memory runs out.
 pub fn serve_text<R: Threads + Wait + Sync, G: Gate>(
-    rt: &R,
+    on: On<R, G>,
     alloc: Global,
-    gate: &G,
-    cut: Cut,
     commands: &[ServeCommand],
 ) -> Result<Vec<u8>, NoMemory>
     requires { IsServeInput commands.now }
     ensures { IfOk result (λ text. IsServeOutput commands.now text.items) }
 {
     let (store, callers) = Store::start(alloc, ServedMap::new(), callers(commands))?;
-    let served = run_serve(rt, alloc, gate, cut, store, callers, commands)?;
-    finish(rt, alloc, gate, cut, served)
+    let served = run_serve(on.rt, alloc, on.gate, on.cut, store, callers, commands)?;
+    finish(on, alloc, served)
 }

@@ -12,7 +12,7 @@ use crate::fate::Fate;
 use crate::op::GraphOp;
 use aug_map::PlainMap;
 use aug_monoid::{NoMemory, Nothing, Pair64};
-use fork_join::{Cut, Gate};
+use fork_join::{Cut, Gate, On};
 use graph_snap::{Edge, Graph};
 use std::alloc::Global;
 use std::marker::Sync;
@@ -85,41 +85,35 @@ fn fates_of(alloc: Global, batches: &[Batch<GraphOp>]) -> Result<Vec<(Pair64, Fa
 
 /// What fates come to, of which the last one of each edge counts.
 fn net_of<R: Threads + Sync, G: Gate>(
-    rt: &R,
+    on: On<R, G>,
     alloc: Global,
-    gate: &G,
-    cut: Cut,
     fates: &[(Pair64, Fate)],
 ) -> Result<Net, NoMemory>
     ensures cut { IfOk result (λ net. net.cut.items ≡ cut_parts (build pair64_cmp fates.now)) }
     ensures added { IfOk result (λ net. net.added.items ≡ added_parts (build pair64_cmp fates.now)) }
 {
-    let last = Fates::build(rt, alloc, gate, cut, fates)?;
+    let last = Fates::build(on.rt, alloc, on.gate, on.cut, fates)?;
     let entries = last.to_vec(alloc)?;
     Net::of(alloc, &entries)
 }
 
 /// The graph without the edges that are cut, and with those that are added.
 fn changed<R: Threads + Sync, G: Gate>(
-    rt: &R,
+    on: On<R, G>,
     alloc: Global,
-    gate: &G,
-    cut: Cut,
     graph: &Graph,
     net: &Net,
 ) -> Result<Graph, NoMemory>
     ensures { IfOk result (λ new. new ≡ with_edges (without_edges graph.now (pairs_of net.now.cut.items)) (pairs_of net.now.added.items)) }
 {
-    let less = graph.cut_edges(rt, alloc, gate, cut, &net.cut)?;
-    less.add_edges(rt, alloc, gate, cut, &net.added)
+    let less = graph.cut_edges(on.rt, alloc, on.gate, on.cut, &net.cut)?;
+    less.add_edges(on.rt, alloc, on.gate, on.cut, &net.added)
 }
 
 /// The graph after the operations of the batches in order.
 pub(crate) fn applied<R: Threads + Sync, G: Gate>(
-    rt: &R,
+    on: On<R, G>,
     alloc: Global,
-    gate: &G,
-    cut: Cut,
     graph: &Graph,
     batches: &[Batch<GraphOp>],
 ) -> Result<Graph, NoMemory>
@@ -127,6 +121,6 @@ pub(crate) fn applied<R: Threads + Sync, G: Gate>(
 {
     let _ordered = graph.edges(); // for the proof alone: edges rise
     let fates = fates_of(alloc, batches)?;
-    let net = net_of(rt, alloc, gate, cut, &fates)?;
-    changed(rt, alloc, gate, cut, graph, &net)
+    let net = net_of(on, alloc, &fates)?;
+    changed(on, alloc, graph, &net)
 }

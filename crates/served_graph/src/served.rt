@@ -6,7 +6,7 @@ ghost use Rattle.versions.specs.History.{after};
 use crate::net::applied;
 use crate::op::GraphOp;
 use aug_monoid::{NoMemory, Share};
-use fork_join::{Cut, FreeGate, Gate};
+use fork_join::{FreeGate, Gate, On};
 use graph_snap::Graph;
 use std::alloc::Global;
 use std::marker::{Model, Sync};
@@ -71,26 +71,23 @@ impl State for ServedGraph {
     /// O(n * log(n + m)).
     fn change<R: Threads + Sync>(
         &self,
-        rt: &R,
+        on: On<R, FreeGate>,
         alloc: Global,
-        cut: Cut,
         batches: &[Batch<GraphOp>],
     ) -> Result<ServedGraph, NoMemory> {
-        change_by(rt, alloc, &FreeGate, cut, self, batches)
+        change_by(on, alloc, self, batches)
     }
 }
 
 /// What `change` answers. Its forks enter the gate.
 pub fn change_by<R: Threads + Sync, G: Gate>(
-    rt: &R,
+    on: On<R, G>,
     alloc: Global,
-    gate: &G,
-    cut: Cut,
     served: &ServedGraph,
     batches: &[Batch<GraphOp>],
 ) -> Result<ServedGraph, NoMemory>
     ensures { IfOk result (λ state. state ≡ after step served.now batches.now) }
 {
-    let graph = applied(rt, alloc, gate, cut, &served.graph, batches)?;
+    let graph = applied(on, alloc, &served.graph, batches)?;
     Ok(ServedGraph { graph })
 }

@@ -3,7 +3,7 @@ ghost use Rattle.std.specs.Prelude.{◌<◌};
 
 use crate::plain::{Chance, Entries, apply_plainly};
 use aug_monoid::Share;
-use fork_join::{Cut, FreeGate};
+use fork_join::{Cut, FreeGate, On};
 use meeting::Meeting;
 use served_map::{Op, Served, change_by};
 use std::alloc::Global;
@@ -98,7 +98,12 @@ fn long_batch<R: Threads + Abort + Sync>(rt: &R, alloc: Global, count: u64) -> b
     let mut batches = Vec::new(alloc);
     push_batch(rt, alloc, &mut batches, &ops);
     let gate = Meeting::new();
-    let served = change_by(rt, alloc, &gate, Cut::new(2, 1), &Served::new(), &batches);
+    let on = On {
+        rt,
+        gate: &gate,
+        cut: Cut::new(2, 1),
+    };
+    let served = change_by(on, alloc, &Served::new(), &batches);
     assert_same(rt, alloc, &served.expect(rt, "memory"), &list);
     gate.was_met()
 }
@@ -144,7 +149,12 @@ fn given_up<R: Threads + Abort + Sync>(
     ops: &[Op],
 ) -> Served {
     let batches = halves(rt, alloc, ops);
-    let new = served.applied(rt, alloc, &FreeGate, Cut::new(2, 1), batches.as_slice());
+    let on = On {
+        rt,
+        gate: &FreeGate,
+        cut: Cut::new(2, 1),
+    };
+    let new = served.changed(on, alloc, batches.as_slice());
     new.expect(rt, "memory")
 }
 

@@ -2,7 +2,7 @@
 
 use crate::plain::Chance;
 use aug_monoid::Share;
-use fork_join::{Cut, FreeGate};
+use fork_join::{Cut, FreeGate, On};
 use graph_snap::Graph;
 use meeting::Meeting;
 use served_graph::{GraphOp, ServedGraph, change_by};
@@ -161,7 +161,12 @@ fn halves_meet<R: Threads + Abort + Sync>(rt: &R, alloc: Global, count: u64) -> 
     let batches = halves(rt, alloc, &ops);
     let gate = Meeting::new();
     let none = ServedGraph::new();
-    let _served = change_by(rt, alloc, &gate, Cut::new(2, 1), &none, &batches).expect(rt, "memory");
+    let on = On {
+        rt,
+        gate: &gate,
+        cut: Cut::new(2, 1),
+    };
+    let _served = change_by(on, alloc, &none, &batches).expect(rt, "memory");
     gate.was_met()
 }
 

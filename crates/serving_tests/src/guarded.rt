@@ -3,7 +3,7 @@ ghost use Rattle.std.specs.Prelude.{◌≡◌, IfOk, fold};
 ghost use Rattle.serving_tests.specs.Sums.{sum_up};
 
 use aug_monoid::{NoMemory, Share};
-use fork_join::Cut;
+use fork_join::{FreeGate, On};
 use std::alloc::Global;
 use std::marker::{Model, Sync};
 use std::sync::Arc;
@@ -86,9 +86,8 @@ impl State for Guarded {
 
     fn change<R: Threads + Sync>(
         &self,
-        _rt: &R,
+        _on: On<R, FreeGate>,
         _alloc: Global,
-        _cut: Cut,
         batches: &[Batch<u64>],
     ) -> Result<Guarded, NoMemory> {
         let mut total = self.total;

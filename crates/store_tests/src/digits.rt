@@ -4,7 +4,7 @@ ghost use Rattle.store_tests.specs.Digits.{written};
 
 use aug_monoid::{NoMemory, Share};
 use batch_store::{Batch, State};
-use fork_join::Cut;
+use fork_join::{FreeGate, On};
 use std::alloc::Global;
 use std::marker::{Model, Sync};
 use std::sync::Arc;
@@ -101,9 +101,8 @@ impl State for Digits {
 
     fn change<R: Threads + Sync>(
         &self,
-        _rt: &R,
+        _on: On<R, FreeGate>,
         _alloc: Global,
-        _cut: Cut,
         batches: &[Batch<u64>],
     ) -> Result<Digits, NoMemory> {
         if self.door.refuses() {

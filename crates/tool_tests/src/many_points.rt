@@ -1,6 +1,6 @@
 //! Many commands of the tool points in a row.
 
-use fork_join::{Cut, FreeGate};
+use fork_join::{Cut, FreeGate, On};
 use points_tool::{PointsCommand, Weighed, run_points};
 use script::Items;
 use std::alloc::Global;
@@ -36,7 +36,12 @@ fn adds<R: Abort>(rt: &R, alloc: Global, columns: u64) -> Vec<PointsCommand> {
 
 fn replies<R: Threads + Abort + Sync>(rt: &R, alloc: Global, columns: u64) -> Vec<u8> {
     let commands = adds(rt, alloc, columns);
-    run_points(rt, alloc, &FreeGate, Cut::new(2, 1), &commands).expect(rt, "memory")
+    let on = On {
+        rt,
+        gate: &FreeGate,
+        cut: Cut::new(2, 1),
+    };
+    run_points(on, alloc, &commands).expect(rt, "memory")
 }
 
 #[test]

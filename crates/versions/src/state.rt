@@ -5,7 +5,7 @@ ghost use Rattle.versions.specs.History.{after};
 
 use crate::batch::Batch;
 use aug_monoid::{NoMemory, Share};
-use fork_join::{Cut, Gate};
+use fork_join::{Cut, FreeGate, Gate, On};
 use std::alloc::Global;
 use std::marker::{Send, Sync};
 use std::thread::Threads;
@@ -18,13 +18,13 @@ pub trait State: Share + Sized {
     /// The state after one operation.
     ghost step: { Self → Self.Op → Self };
 
-    /// The state after the operations of the batches in order. It may fork by `FreeGate` within the cut.
-    /// The answer depends on neither the runtime nor the cut. Each state says what it takes.
+    /// The state after the operations of the batches in order. It may fork, by the free gate: what forks inside a method of an impl can call
+    /// no gate but one that is named.
+    /// The answer does not depend on where it runs. Each state says what it takes.
     fn change<R: Threads + Sync>(
         &self,
-        rt: &R,
+        on: On<R, FreeGate>,
         alloc: Global,
-        cut: Cut,
         batches: &[Batch<Self::Op>],
     ) -> Result<Self, NoMemory>
         requires { IsSync R.row }
@@ -34,20 +34,18 @@ pub trait State: Share + Sized {
     /// A state that refuses is gone. The answer is that of `change`.
     fn changed<R: Threads + Sync>(
         self,
-        rt: &R,
+        on: On<R, FreeGate>,
         alloc: Global,
-        cut: Cut,
         batches: &[Batch<Self::Op>],
     ) -> Result<Self, NoMemory>
         requires { IsSync R.row }
         ensures { IfOk result (λ state. state ≡ after step self batches.now) }
     {
-        self.change(rt, alloc, cut, batches)
+        self.change(on, alloc, batches)
     }
 
     /// The state after the operations of the batches in order, as `change` makes it.
-    /// The answer depends on neither the runtime nor the gate nor the cut, and the gate is not entered:
-    /// what forks inside a method of an impl can call no gate but one that it names itself.
+    /// The answer depends on neither the runtime nor the gate nor the cut, and the gate is not entered.
     final fn apply<R: Threads + Sync, G: Gate>(
         &self,
         rt: &R,
@@ -58,21 +56,15 @@ pub trait State: Share + Sized {
     ) -> Result<Self, NoMemory>
         ensures { IfOk result (λ state. state ≡ after step self.now batches.now) }
     {
-        self.change(rt, alloc, cut, batches)
-    }
-
-    /// As `apply`, of a state that is given up, as `changed` makes it.
-    final fn applied<R: Threads + Sync, G: Gate>(
-        self,
-        rt: &R,
-        alloc: Global,
-        _gate: &G,
-        cut: Cut,
-        batches: &[Batch<Self::Op>],
-    ) -> Result<Self, NoMemory>
-        ensures { IfOk result (λ state. state ≡ after step self batches.now) }
-    {
-        self.changed(rt, alloc, cut, batches)
+        self.change(
+            On {
+                rt,
+                gate: &FreeGate,
+                cut,
+            },
+            alloc,
+            batches,
+        )
     }
 }
 
