@@ -3,29 +3,29 @@ ghost use Rattle.std.specs.Prelude.{◌≡◌, ◌+◌, ◌*◌, ◌≤◌, [], 
 ghost use Rattle.map_model.specs.Entries.{drop_key, set};
 ghost use Rattle.map_model.specs.SetOperations.{union};
 
-use crate::map::MapOver;
-use aug_monoid::{Augment, LeafMut, NoMemory, Resolve, Steps};
+use crate::map::Map;
+use aug_monoid::{NoMemory, Resolve, Steps};
 use std::alloc::Global;
 use std::sync::ledger::Ledger;
-use tree_base::BlockSize;
+use tree_change::ShapeMut;
 
-impl<A: Augment, L: LeafMut<A::Key, A::Val>, S: BlockSize> MapOver<A, L, S> {
-    /// Sets a key to a value, in at most `64 * (height + 1) * (B + 2) + L::FIND` steps. A node or block on the way that no other
+impl<M: ShapeMut> Map<M> {
+    /// Sets a key to a value, in at most `64 * (height + 1) * (B + 2) + M::Leaf::FIND` steps. A node or block on the way that no other
     /// map has part in is changed where it stands, if the node stays balanced; from the first one on that has another owner or
     /// would not, and everywhere where the `Augment` may refuse, the change goes on by a copy, as `put` does. After a refusal
     /// the map is as it was.
     pub fn put_mut<C: Ledger>(
         &mut self,
         alloc: Global,
-        key: A::Key,
-        val: A::Val,
+        key: M::Key,
+        val: M::Val,
         steps: &mut Steps<C>,
     ) -> Result<(), NoMemory>
-        ensures entries { IfOk result (λ _. self.new.entries ≡ set A.Key.cmp self.old.entries key val) }
+        ensures entries { IfOk result (λ _. self.new.entries ≡ set M.Key.cmp self.old.entries key val) }
         ensures kept { OnErr result (self.new ≡ self.old) }
-        ensures cost { steps.new ≤ steps.old + (64 * (self.old.height + 1) * (S.SIZE + 2) + L.FIND) }
+        ensures cost { steps.new ≤ steps.old + (64 * (self.old.height + 1) * (M.BLOCK + 2) + M.Leaf.FIND) }
     {
-        tree_changes::put_mut(alloc, &mut self.tree, key, val, steps)
+        tree_change::put_mut(alloc, &mut self.tree, key, val, steps)
     }
 
     /// Removes a key, which the map need not have, in place as `put_mut` sets one and in as many steps; the entry of a node always
@@ -33,31 +33,31 @@ impl<A: Augment, L: LeafMut<A::Key, A::Val>, S: BlockSize> MapOver<A, L, S> {
     pub fn del_mut<C: Ledger>(
         &mut self,
         alloc: Global,
-        key: &A::Key,
+        key: &M::Key,
         steps: &mut Steps<C>,
     ) -> Result<(), NoMemory>
-        ensures entries { IfOk result (λ _. self.new.entries ≡ drop_key A.Key.cmp self.old.entries key.now) }
+        ensures entries { IfOk result (λ _. self.new.entries ≡ drop_key M.Key.cmp self.old.entries key.now) }
         ensures kept { OnErr result (self.new ≡ self.old) }
-        ensures cost { steps.new ≤ steps.old + (64 * (self.old.height + 1) * (S.SIZE + 2) + L.FIND) }
+        ensures cost { steps.new ≤ steps.old + (64 * (self.old.height + 1) * (M.BLOCK + 2) + M.Leaf.FIND) }
     {
-        tree_changes::del_mut(alloc, &mut self.tree, key, steps)
+        tree_change::del_mut(alloc, &mut self.tree, key, steps)
     }
 
     /// Sets a key to what `how` makes of its value and the given one, or to the given one where the key is new: the union with
-    /// the map of that one entry, in place as `put_mut`, in at most `65 * (height + 1) * (B + 2) + 2 * L::FIND` steps. After a
+    /// the map of that one entry, in place as `put_mut`, in at most `65 * (height + 1) * (B + 2) + 2 * M::Leaf::FIND` steps. After a
     /// refusal the map is as it was.
-    pub fn put_with<C: Ledger, H: Resolve<A::Val>>(
+    pub fn put_with<C: Ledger, H: Resolve<M::Val>>(
         &mut self,
         alloc: Global,
-        key: A::Key,
-        val: A::Val,
+        key: M::Key,
+        val: M::Val,
         how: &H,
         steps: &mut Steps<C>,
     ) -> Result<(), NoMemory>
-        ensures entries { IfOk result (λ _. self.new.entries ≡ union A.Key.cmp (H.resolved how.now) self.old.entries ((key, val) ∷ [])) }
+        ensures entries { IfOk result (λ _. self.new.entries ≡ union M.Key.cmp (H.resolved how.now) self.old.entries ((key, val) ∷ [])) }
         ensures kept { OnErr result (self.new ≡ self.old) }
-        ensures cost { steps.new ≤ steps.old + (65 * (self.old.height + 1) * (S.SIZE + 2) + 2 * L.FIND) }
+        ensures cost { steps.new ≤ steps.old + (65 * (self.old.height + 1) * (M.BLOCK + 2) + 2 * M.Leaf.FIND) }
     {
-        tree_changes::put_with(alloc, &mut self.tree, key, val, how, steps)
+        tree_change::put_with(alloc, &mut self.tree, key, val, how, steps)
     }
 }

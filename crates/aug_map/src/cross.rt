@@ -1,16 +1,11 @@
 //! Maps and their cursors cross threads.
-use crate::cursor::CursorOver;
-use crate::map::MapOver;
-use aug_monoid::{Leaf, SyncAugment, crosses};
-use std::marker::{Send, Sync};
-use tree_base::BlockSize;
+use crate::cursor::Cursor;
+use crate::map::Map;
+use aug_monoid::crosses;
+use tree_shape::SyncShape;
 
 /// A map and its cursors are sent to and shared among threads. It does nothing, and is there for the proof of that alone.
-pub fn map_crosses<
-    A: SyncAugment,
-    L: Leaf<A::Key, A::Val> + Send + Sync,
-    S: BlockSize + Send + Sync,
->(map: &MapOver<A, L, S>, cursor: &CursorOver<'_, A, L, S>) {
+pub fn map_crosses<M: SyncShape>(map: &Map<M>, cursor: &Cursor<'_, M>) {
     crosses(map);
     crosses(cursor);
 }

@@ -4,12 +4,12 @@ ghost use Rattle.std.specs.Iterator.{item_count};
 ghost use Rattle.aug_map.specs.Shares.{YieldsShares, Takes};
 ghost use Rattle.aug_map.specs.Places.{IsBehind, IsPlace};
 
-use crate::map::MapOver;
+use crate::map::Map;
 use crate::seat::{Seat, find_seat};
-use aug_monoid::{Augment, Key, Leaf, NoMemory, Share, Walk, share_entry};
+use aug_monoid::{Key, Leaf, NoMemory, Share, Walk, share_entry};
 use std::alloc::Global;
 use std::marker::Model;
-use tree_base::{BlockSize, TreeOver, Width};
+use tree_shape::{Shape, Tree};
 
 /// A place in a leaf, with the entry that follows the leaf's last, if there is one.
 #[derive(Drop)]
@@ -20,23 +20,20 @@ pub(crate) struct Place<'a, K, V, L> {
     next: Option<(&'a K, &'a V)>,
 }
 
-/// The entries of a map in the order of their keys.
-pub type Cursor<'a, A, L, const B: usize> = CursorOver<'a, A, L, Width<B>>;
-
 /// The entries of a map in the order of their keys, which contracts see as the list of those that are left.
 #[derive(Drop)]
-pub struct CursorOver<'a, A: Augment, L: Leaf<A::Key, A::Val>, S: BlockSize> {
+pub struct Cursor<'a, M: Shape> {
     alloc: Global,
-    tree: &'a TreeOver<A, L, S>,
+    tree: &'a Tree<M>,
     at: u64,
     end: u64,
-    place: Option<Place<'a, A::Key, A::Val, L>>,
+    place: Option<Place<'a, M::Key, M::Val, M::Leaf>>,
 }
 
-impl<'a, A: Augment, L: Leaf<A::Key, A::Val>, S: BlockSize> Model for CursorOver<'a, A, L, S> {
+impl<'a, M: Shape> Model for Cursor<'a, M> {
     ghost use Rattle.std.specs.Prelude.{List, ◌≡◌, ◌≤◌, length, drop};
 
-    ghost Value = { List (A.Key × A.Val) };
+    ghost Value = { List (M.Key × M.Val) };
 
     ghost use Rattle.aug_map.specs.Places.{IsPlace};
 
@@ -44,17 +41,17 @@ impl<'a, A: Augment, L: Leaf<A::Key, A::Val>, S: BlockSize> Model for CursorOver
 
     ghost invariant = { λ c. (c.at ≤ c.end)
         × (c.end ≡ length c.tree.now.entries)
-        × IsPlace L.entries L.fits_walk (drop c.at c.tree.now.entries) c.place };
+        × IsPlace M.Leaf.entries M.Leaf.fits_walk (drop c.at c.tree.now.entries) c.place };
 }
 
-impl<A: Augment, L: Leaf<A::Key, A::Val>, S: BlockSize> MapOver<A, L, S> {
+impl<M: Shape> Map<M> {
     /// Goes over the entries in the order of their keys: one item an entry, a share of it or a refusal of that share. It keeps the
     /// allocator for the shares, and takes no memory itself. An entry takes O(1), and the first one of a block O(log n) in a map
     /// of n entries.
-    pub fn cursor(&self, alloc: Global) -> CursorOver<'_, A, L, S>
+    pub fn cursor(&self, alloc: Global) -> Cursor<'_, M>
         ensures { result ≡ self.now.entries }
     {
-        CursorOver {
+        Cursor {
             alloc,
             tree: &self.tree,
             at: 0,
@@ -106,16 +103,16 @@ fn take_inside<'a, K: Key, V: Share, L: Leaf<K, V>>(
 }
 
 // The entry behind the first `at` entries of a tree, looked up from the root, and the place behind it.
-fn take_from_root<'a, A: Augment, L: Leaf<A::Key, A::Val>, S: BlockSize>(
+fn take_from_root<'a, M: Shape>(
     alloc: Global,
-    tree: &'a TreeOver<A, L, S>,
+    tree: &'a Tree<M>,
     at: u64,
-    place: &mut Option<Place<'a, A::Key, A::Val, L>>,
-) -> Result<(A::Key, A::Val), NoMemory>
+    place: &mut Option<Place<'a, M::Key, M::Val, M::Leaf>>,
+) -> Result<(M::Key, M::Val), NoMemory>
     requires { at < length tree.now.entries }
     ensures entry { Takes tree.now.entries at result }
-    ensures succeeds { A.Key.never_refuses → A.Val.never_refuses → IsOk result }
-    ensures place { IsPlace L.entries L.fits_walk (drop (at + 1) tree.now.entries) place.new }
+    ensures succeeds { M.Key.never_refuses → M.Val.never_refuses → IsOk result }
+    ensures place { IsPlace M.Leaf.entries M.Leaf.fits_walk (drop (at + 1) tree.now.entries) place.new }
 {
     match find_seat(tree, at, None) {
         Seat::Entry { key, val } => {
@@ -137,17 +134,17 @@ fn take_from_root<'a, A: Augment, L: Leaf<A::Key, A::Val>, S: BlockSize>(
 }
 
 // The entry behind the first `at` entries of a tree, and the place moves behind it.
-fn take_next<'a, A: Augment, L: Leaf<A::Key, A::Val>, S: BlockSize>(
+fn take_next<'a, M: Shape>(
     alloc: Global,
-    tree: &'a TreeOver<A, L, S>,
+    tree: &'a Tree<M>,
     at: u64,
-    place: &mut Option<Place<'a, A::Key, A::Val, L>>,
-) -> Result<(A::Key, A::Val), NoMemory>
+    place: &mut Option<Place<'a, M::Key, M::Val, M::Leaf>>,
+) -> Result<(M::Key, M::Val), NoMemory>
     requires within { at < length tree.now.entries }
-    requires place { IsPlace L.entries L.fits_walk (drop at tree.now.entries) place.old }
+    requires place { IsPlace M.Leaf.entries M.Leaf.fits_walk (drop at tree.now.entries) place.old }
     ensures entry { Takes tree.now.entries at result }
-    ensures succeeds { A.Key.never_refuses → A.Val.never_refuses → IsOk result }
-    ensures place { IsPlace L.entries L.fits_walk (drop (at + 1) tree.now.entries) place.new }
+    ensures succeeds { M.Key.never_refuses → M.Val.never_refuses → IsOk result }
+    ensures place { IsPlace M.Leaf.entries M.Leaf.fits_walk (drop (at + 1) tree.now.entries) place.new }
 {
     if let Some(inside) = place {
         if inside.at < inside.leaf.len() {
@@ -161,14 +158,14 @@ fn take_next<'a, A: Augment, L: Leaf<A::Key, A::Val>, S: BlockSize>(
     take_from_root(alloc, tree, at, place)
 }
 
-impl<'a, A: Augment, L: Leaf<A::Key, A::Val>, S: BlockSize> Iterator for CursorOver<'a, A, L, S> {
-    type Item = Result<(A::Key, A::Val), NoMemory>;
+impl<'a, M: Shape> Iterator for Cursor<'a, M> {
+    type Item = Result<(M::Key, M::Val), NoMemory>;
 
-    ghost next_gives = { YieldsShares (A.Key.never_refuses × A.Val.never_refuses) (λ c. c) };
+    ghost next_gives = { YieldsShares (M.Key.never_refuses × M.Val.never_refuses) (λ c. c) };
 
     ghost remaining = { item_count (λ c. c) };
 
-    fn next(&mut self) -> Option<Result<(A::Key, A::Val), NoMemory>> {
+    fn next(&mut self) -> Option<Result<(M::Key, M::Val), NoMemory>> {
         if self.at >= self.end {
             return None;
         }

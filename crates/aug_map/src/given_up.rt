@@ -5,37 +5,39 @@ ghost use Rattle.map_model.specs.Entries.{IsIncreasing};
 ghost use Rattle.map_model.specs.Operations.{after, puts};
 ghost use Rattle.map_model.specs.SetOperations.{union};
 
-use crate::map::MapOver;
-use aug_monoid::{Augment, NoMemory, Resolve, SyncAugment};
-use bulk_changes::IntoEntries;
-use fork_join::{Cut, Gate};
+use crate::map::Map;
+use aug_monoid::{NoMemory, Resolve, Second};
+use bulk_changes::{IntoShape, SyncIntoShape, UnitingInto};
+use fork_join::{Cut, Gate, On, divide, divide_alone};
+use sorted_lists::{last_of_each_key, last_of_each_key_alone};
 use std::alloc::Global;
 use std::marker::{Send, Sync};
 use std::mem;
 use std::thread::Threads;
-use tree_base::{BlockSize, TreeOver};
+use tree_shape::Tree;
 
-impl<
-    A: SyncAugment,
-    L: IntoEntries<A::Key, A::Val> + Send + Sync,
-    S: BlockSize + Send + Sync,
-> MapOver<A, L, S> {
+impl<M: SyncIntoShape> Map<M> {
     /// The entries of this map or the list. At a key of both the value is what `how` makes of the value here and the value in the
     /// list, whose entries are shared. For a list of k entries and a map of n, O(k * log(n / k + 1)) work.
-    pub fn union_into<R: Threads + Sync, G: Gate, H: Resolve<A::Val> + Send + Sync>(
+    pub fn union_into<R: Threads + Sync, G: Gate, H: Resolve<M::Val> + Send + Sync>(
         self,
         rt: &R,
         alloc: Global,
         gate: &G,
         cut: Cut,
-        list: &[(A::Key, A::Val)],
+        list: &[(M::Key, M::Val)],
         how: &H,
-    ) -> Result<MapOver<A, L, S>, NoMemory>
-        requires increasing { IsIncreasing A.Key.cmp list.now }
-        ensures { IfOk result (λ map. map.entries ≡ union A.Key.cmp (H.resolved how.now) self.entries list.now) }
+    ) -> Result<Map<M>, NoMemory>
+        requires increasing { IsIncreasing M.Key.cmp list.now }
+        ensures { IfOk result (λ map. map.entries ≡ union M.Key.cmp (H.resolved how.now) self.entries list.now) }
     {
         let tree = self.into_tree();
-        MapOver::from_tree(bulk_changes::union_into(rt, alloc, gate, cut, tree, list, how))
+        Map::from_tree(divide(
+            On { rt, gate, cut },
+            alloc,
+            &UnitingInto { how },
+            (tree, list),
+        ))
     }
 
     /// The map after all puts in order, so that a later pair of a key wins. O(k * log k + k * log(n / k + 1)) work for k pairs and
@@ -46,38 +48,38 @@ impl<
         alloc: Global,
         gate: &G,
         cut: Cut,
-        pairs: &[(A::Key, A::Val)],
-    ) -> Result<MapOver<A, L, S>, NoMemory>
-        ensures { IfOk result (λ map. map.entries ≡ after A.Key.cmp self.entries (puts pairs.now)) }
+        pairs: &[(M::Key, M::Val)],
+    ) -> Result<Map<M>, NoMemory>
+        ensures { IfOk result (λ map. map.entries ≡ after M.Key.cmp self.entries (puts pairs.now)) }
     {
-        let tree = self.into_tree();
-        MapOver::from_tree(batch_ops::multi_put_into(rt, alloc, gate, cut, tree, pairs))
+        let _size = self.size(); // for the proof alone: keys rise
+        let batch = last_of_each_key(rt, alloc, pairs)?;
+        self.union_into(rt, alloc, gate, cut, &batch, &Second)
     }
 }
 
-impl<A: Augment, L: IntoEntries<A::Key, A::Val>, S: BlockSize> MapOver<A, L, S> {
+impl<M: IntoShape> Map<M> {
     /// The tree of the map.
-    fn into_tree(self) -> TreeOver<A, L, S>
+    fn into_tree(self) -> Tree<M>
         ensures { result ≡ self }
     {
-        let _least = self.tree.block_size(); // for the proof alone: the block size is lawful
         let mut map = self;
-        mem::replace(&mut map.tree, TreeOver::empty())
+        mem::replace(&mut map.tree, Tree::empty())
     }
 
     /// `union_into` on one thread, which asks of keys, values, folds and of `how` nothing about threads. For a list of k entries
     /// and a map of n, O(k * log(n / k + 1)).
-    pub fn union_into_alone<H: Resolve<A::Val>>(
+    pub fn union_into_alone<H: Resolve<M::Val>>(
         self,
         alloc: Global,
-        list: &[(A::Key, A::Val)],
+        list: &[(M::Key, M::Val)],
         how: &H,
-    ) -> Result<MapOver<A, L, S>, NoMemory>
-        requires increasing { IsIncreasing A.Key.cmp list.now }
-        ensures { IfOk result (λ map. map.entries ≡ union A.Key.cmp (H.resolved how.now) self.entries list.now) }
+    ) -> Result<Map<M>, NoMemory>
+        requires increasing { IsIncreasing M.Key.cmp list.now }
+        ensures { IfOk result (λ map. map.entries ≡ union M.Key.cmp (H.resolved how.now) self.entries list.now) }
     {
         let tree = self.into_tree();
-        MapOver::from_tree(bulk_changes::union_into_alone(alloc, tree, list, how))
+        Map::from_tree(divide_alone(alloc, &UnitingInto { how }, (tree, list)))
     }
 
     /// `multi_put_into` on one thread, which asks of keys, values and folds nothing about threads.
@@ -85,11 +87,12 @@ impl<A: Augment, L: IntoEntries<A::Key, A::Val>, S: BlockSize> MapOver<A, L, S> 
     pub fn multi_put_into_alone(
         self,
         alloc: Global,
-        pairs: &[(A::Key, A::Val)],
-    ) -> Result<MapOver<A, L, S>, NoMemory>
-        ensures { IfOk result (λ map. map.entries ≡ after A.Key.cmp self.entries (puts pairs.now)) }
+        pairs: &[(M::Key, M::Val)],
+    ) -> Result<Map<M>, NoMemory>
+        ensures { IfOk result (λ map. map.entries ≡ after M.Key.cmp self.entries (puts pairs.now)) }
     {
-        let tree = self.into_tree();
-        MapOver::from_tree(batch_ops::multi_put_into_alone(alloc, tree, pairs))
+        let _size = self.size(); // for the proof alone: keys rise
+        let batch = last_of_each_key_alone(alloc, pairs)?;
+        self.union_into_alone(alloc, &batch, &Second)
     }
 }

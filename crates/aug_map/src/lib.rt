@@ -5,24 +5,34 @@
 //! called on, and no other; `union_into` and `multi_put_into` take a map that is given up, and move what it alone has: a refusal
 //! loses it. No other call changes an argument. `NoMemory` is the one refusal, also where the `Augment` refuses.
 //!
-//! Tests: `map_tests`, `work_tests`. Wrong bodies: here, in `must-fail/` and `wrong-bodies/`.
+//! The names here give a map's augment, or its augment, its leaf and its block size, and are aliases of the types over one shape, which
+//! code that is generic in its maps takes from `shaped`.
+//!
+//! Operations on whole maps fork where the cut allows it: each is a work of `bulk_passes`, `bulk_ops` or `bulk_changes`, handed to
+//! `divide`. Its twin, whose name ends in `_alone`, hands it to `divide_alone`, and asks nothing about threads. `sorted_lists` sorts
+//! pairs for it; the calls on single keys, on parts and on ranges stand on `tree_entry`, `tree_change`, `tree_cut`, `tree_join` and
+//! `tree_query`, all over the trees of `tree_shape`.
+//!
+//! Tests: `map_tests`, `work_tests`. Wrong bodies: here.
 #![tactic(auto)]
 
+mod aliases;
 mod alone;
 mod bulk;
 mod changes;
 mod cross;
 mod cursor;
 mod entries;
+mod finding;
 mod given_up;
 mod joins;
 mod listing;
 mod map;
 mod queries;
 mod seat;
+pub mod shaped;
+mod shapes;
 
+pub use aliases::{CodedMap, Cursor, Exposed, Map, Parts, PlainMap};
 pub use bulk_changes::IntoEntries;
 pub use cross::map_crosses;
-pub use cursor::{Cursor, CursorOver};
-pub use joins::{Exposed, ExposedOver, Parts, PartsOver};
-pub use map::{CodedMap, Map, MapOver, PlainMap};

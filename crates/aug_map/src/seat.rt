@@ -2,8 +2,7 @@
 ghost use Rattle.std.specs.Prelude.{◌≡◌, ◌<◌, ◌++◌, List, length, drop};
 ghost use Rattle.aug_map.specs.Seats.{IsSeat, led_by};
 
-use aug_monoid::{Augment, Leaf};
-use tree_base::{BlockSize, LookOver, TreeOver};
+use tree_shape::{Look, Shape, Tree};
 
 /// Where an entry stands: in a node, or in a leaf behind others. A leaf comes with the entry that follows its last, if there is
 /// one.
@@ -21,22 +20,22 @@ pub(crate) enum Seat<'a, K, V, L> {
 }
 
 /// Where the entry behind the first `at` entries stands, in a tree that an entry may follow.
-pub(crate) fn find_seat<'a, A: Augment, L: Leaf<A::Key, A::Val>, S: BlockSize>(
-    tree: &'a TreeOver<A, L, S>,
+pub(crate) fn find_seat<'a, M: Shape>(
+    tree: &'a Tree<M>,
     at: u64,
-    after: Option<(&'a A::Key, &'a A::Val)>,
-) -> Seat<'a, A::Key, A::Val, L>
+    after: Option<(&'a M::Key, &'a M::Val)>,
+) -> Seat<'a, M::Key, M::Val, M::Leaf>
     requires { at < length tree.now.entries }
-    ensures { (more : List (A.Key × A.Val)) → IsSeat L.entries (drop at tree.now.entries ++ led_by after.entry more) result }
+    ensures { (more : List (M.Key × M.Val)) → IsSeat M.Leaf.entries (drop at tree.now.entries ++ led_by after.entry more) result }
 {
     match tree.look() {
-        LookOver::Empty => unreachable!(),
-        LookOver::Block { leaf } => Seat::Inside {
+        Look::Empty => unreachable!(),
+        Look::Block { leaf } => Seat::Inside {
             leaf,
             at,
             next: after,
         },
-        LookOver::Node {
+        Look::Node {
             left,
             key,
             val,

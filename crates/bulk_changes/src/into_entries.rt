@@ -37,20 +37,14 @@ impl IntoEntries<Pair64, u64> for RowLeaf {
     }
 }
 
-/// The entries of a leaf that stays, in one walk over them.
+/// The entries of a leaf that stays, which are shared. O(n) for n entries.
 pub(crate) fn copied_entries<K: Key, V: Share, L: Leaf<K, V>>(
     alloc: Global,
     leaf: &L,
 ) -> Result<Vec<(K, V)>, NoMemory>
     ensures { IfOk result (λ v. v.items ≡ L.entries leaf.now) }
 {
-    let mut out = Vec::with_capacity(alloc, leaf.len() as usize)?;
-    let mut walk = leaf.walk();
-    for _at in 0..leaf.len() {
-        let Some(entry) = leaf.walk_next(&mut walk) else {
-            unreachable!()
-        };
-        out.push(entry.into_entry(alloc)?)?;
-    }
-    Ok(out)
+    let mut entries = Vec::with_capacity(alloc, leaf.len() as usize)?;
+    leaf.share_into(alloc, &mut entries)?;
+    Ok(entries)
 }

@@ -1,16 +1,20 @@
 //! Operations on whole maps that are given up: what has one owner is moved into the answer, and what has more is copied.
 //!
-//! Each call takes the runtime, the allocator, a gate and a cut first, and its answer depends on none of them. Its twin, whose
-//! name ends in `_alone`, gives the same answer on one thread, and takes of these the allocator alone. The only refusal is want of
-//! memory. It gives the map up; copies of it that were taken before stay as they were.
+//! `UnitingInto` is the union with a list, as work for `divide` of `fork_join`, whose answer depends neither on the runtime nor on
+//! the gate nor on the cut, and for `divide_alone`, which gives the same answer on one thread. The only refusal is want of memory,
+//! and then the map is lost; copies of it that were taken before stay as they were.
+//!
+//! An `IntoShape` is a shape of maps whose blocks hand their entries out (`IntoEntries`) where they are given up.
 //!
 //! Tests: `bulk_tests`, `work_tests`. Wrong bodies: none here; `aug_map` states these clauses again.
 #![tactic(auto)]
 
 mod into_entries;
+mod into_shape;
 mod merging;
 mod taking;
 mod uniting;
 
 pub use into_entries::IntoEntries;
-pub use uniting::{union_into, union_into_alone};
+pub use into_shape::{IntoShape, SyncIntoShape};
+pub use uniting::UnitingInto;

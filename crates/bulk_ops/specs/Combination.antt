@@ -5,6 +5,9 @@ use Rattle.std.specs.Option.{option_map}
 use Rattle.std.specs.declared.cmp.Ordering.{Ordering}
 use Rattle.map_model.specs.Contents.{Contents}
 use Rattle.map_model.specs.Entries.{IsIncreasing, lookup, below, above}
+use Rattle.fork_join.specs.declared.work.Opened.{Opened}
+use Rattle.fork_join.specs.Openings.{IsOpened}
+use Rattle.bulk_passes.specs.Answers.{IsAnswer, IsPutTogether}
 
 -- a key with its value, where there is one
 abbrev pub entry_at : {K V : Type 0} → K → Option V → Option (K × V)
@@ -25,6 +28,10 @@ combined_entries combined pair = combined pair.0.entries pair.1.entries
 -- how many entries two maps have
 abbrev pub entry_count : {K V : Type 0} → Contents K V × Contents K V → ℕ
 entry_count pair = length pair.0.entries + length pair.1.entries
+
+-- the combination of two maps, or what it is put together of: the two maps are opened
+abbrev pub IsPairOpened : {K V : Type 0} → (K → K → Ordering) → (List (K × V) → List (K × V) → List (K × V)) → Contents K V × Contents K V → Opened (Contents K V × Contents K V) (Option (K × V)) (Contents K V) → Type 0
+IsPairOpened order combined pair = IsOpened (λ _. Unit {0}) (IsAnswer (combined_entries combined) pair) (IsPutTogether order (combined_entries combined) pair) entry_count (entry_count pair)
 
 -- the first value, where there is no second
 abbrev pub unless : {V : Type 0} → Option V → Option V → Option V

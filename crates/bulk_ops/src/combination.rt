@@ -7,8 +7,9 @@ ghost use Rattle.bulk_ops.specs.Combination.{IsCombination};
 use aug_monoid::{Key, NoMemory, Share};
 use std::alloc::Global;
 
-/// What the combination of two maps has at each key, and how two slices are combined.
-pub(crate) trait Combination<K: Key, V: Share>: Drop {
+/// What the combination of two maps has at each key, and how two slices are combined: `Uniting`, `Intersecting`, `Differing`.
+pub trait Combination<K: Key, V: Share>: Drop {
+    /// The entries of the combination, from those of the two maps.
     ghost combined: { Self → List (K × V) → List (K × V) → List (K × V) };
 
     /// What stands at a key, from what the two maps have there.
@@ -20,15 +21,19 @@ pub(crate) trait Combination<K: Key, V: Share>: Drop {
     /// Whether an entry that only the second map has stays.
     ghost second_stays: { Self → Bool };
 
+    /// Whether the first map stays where the second is empty.
     fn keeps_first(&self) -> bool
         ensures { result ≡ first_stays self.now };
 
+    /// Whether the second map stays where the first is empty.
     fn keeps_second(&self) -> bool
         ensures { result ≡ second_stays self.now };
 
+    /// What stands at a key, from what the two maps have there. `NoMemory` for want of memory alone.
     fn keep(&self, alloc: Global, a: Option<&V>, b: Option<&V>) -> Result<Option<V>, NoMemory>
         ensures { IfOk result (λ val. val ≡ kept self.now (option_map (λ v. v.now) a.entry) (option_map (λ v. v.now) b.entry)) };
 
+    /// The combination of two slices whose keys rise. Linear in their lengths. `NoMemory` for want of memory alone.
     fn combine_slices(
         &self,
         alloc: Global,

@@ -3,45 +3,50 @@ ghost use Rattle.std.specs.Prelude.{◌≡◌, ◌+◌, ◌<◌, ◌^◌, Some, 
 ghost use Rattle.std.specs.Option.{option_map};
 ghost use Rattle.map_model.specs.Entries.{lookup, below, above, IsIncreasing};
 ghost use Rattle.map_model.specs.Balance.{IsBlockSize};
-ghost use Rattle.fork_join.specs.Openings.{IsOpened};
 ghost use Rattle.bulk_passes.specs.Answers.{IsAnswer, IsPutTogether};
-ghost use Rattle.bulk_ops.specs.Combination.{combined_entries, entry_at, entry_count};
+ghost use Rattle.bulk_ops.specs.Combination.{IsPairOpened, combined_entries, entry_at, entry_count};
 
 use crate::combination::Combination;
 use crate::exchanged::Exchanged;
 use crate::few::{FEW_BLOCKS, combine_few, combine_lists, kept_or_none};
 use crate::splitting::split_at;
-use aug_monoid::{Augment, Key, Leaf, NoMemory, Share, SyncAugment};
+use aug_monoid::{Key, NoMemory, Share};
 use bulk_passes::SLICED_BLOCKS;
-use fork_join::{Cut, Divide, Gate, Opened, divide, divide_alone};
-use join_core::Part;
+use fork_join::{Divide, Opened};
 use std::alloc::Global;
-use std::marker::{Send, Sync};
-use std::thread::Threads;
-use tree_base::{BlockSize, LookOver, TreeOver};
-use tree_making::{entries_of, join_around};
-use tree_split::PartsOver;
+use tree_cut::Parts;
+use tree_join::Part;
+use tree_make::{entries_of, join_around};
+use tree_shape::{Look, Shape, Tree};
 
+/// The combination of two maps: its answer for two trees is the tree of what `how` makes of them. Where the trees are only lent,
+/// `shared_sides` gives it owners of its own.
+///
+/// The greater map's root splits the lesser map, and what is made of the two halves is joined around what stays at the root's key; a
+/// side that is empty ends it at once, with the other or with nothing. Two small maps of like sizes are combined as slices, and of a
+/// map beside few entries only the paths to these are copied. `divide` combines the halves side by side where the cut allows it, and
+/// `divide_alone` does all on one thread, asking of values and of `how` nothing about threads. For maps of m and n entries, m at most
+/// n, O(m * log(n / m + 1)) work. It refuses only for want of memory.
 #[derive(Drop)]
-struct Combining<'a, W> {
-    how: &'a W,
+pub struct Combining<'a, W> {
+    pub how: &'a W,
 }
 
-impl<'a, A: Augment, L: Leaf<A::Key, A::Val>, S: BlockSize, W: Combination<A::Key, A::Val>> Divide<
-    (TreeOver<A, L, S>, TreeOver<A, L, S>),
-    Option<(A::Key, A::Val)>,
-    TreeOver<A, L, S>,
+impl<'a, M: Shape, W: Combination<M::Key, M::Val>> Divide<
+    (Tree<M>, Tree<M>),
+    Option<(M::Key, M::Val)>,
+    Tree<M>,
 > for Combining<'a, W> {
     ghost fits = { λ _ _. Unit {0} };
 
     ghost answers = { λ work. IsAnswer (combined_entries (W.combined work.how.now)) };
 
-    ghost divides = { λ work. IsPutTogether A.Key.cmp (combined_entries (W.combined work.how.now)) };
+    ghost divides = { λ work. IsPutTogether M.Key.cmp (combined_entries (W.combined work.how.now)) };
 
     ghost extent = { λ _. entry_count };
 
     // One side of an empty map is no work.
-    fn size(&self, part: &(TreeOver<A, L, S>, TreeOver<A, L, S>)) -> u64 {
+    fn size(&self, part: &(Tree<M>, Tree<M>)) -> u64 {
         let first = part.0.size();
         let second = part.1.size();
         if first == 0 || second == 0 {
@@ -53,37 +58,31 @@ impl<'a, A: Augment, L: Leaf<A::Key, A::Val>, S: BlockSize, W: Combination<A::Ke
     fn open(
         &self,
         alloc: Global,
-        part: (TreeOver<A, L, S>, TreeOver<A, L, S>),
-    ) -> Result<
-        Opened<(TreeOver<A, L, S>, TreeOver<A, L, S>), Option<(A::Key, A::Val)>, TreeOver<A, L, S>>,
-        NoMemory,
-    > {
+        part: (Tree<M>, Tree<M>),
+    ) -> Result<Opened<(Tree<M>, Tree<M>), Option<(M::Key, M::Val)>, Tree<M>>, NoMemory> {
         let (a, b) = part;
-        open_sides::<A, L, S, W>(alloc, self.how, a, b)
+        open_sides::<M, W>(alloc, self.how, a, b)
     }
 
     fn close(
         &self,
         alloc: Global,
-        left: TreeOver<A, L, S>,
-        middle: Option<(A::Key, A::Val)>,
-        right: TreeOver<A, L, S>,
-    ) -> Result<TreeOver<A, L, S>, NoMemory> {
-        join_around::<A, L, S>(alloc, left, middle, right)
+        left: Tree<M>,
+        middle: Option<(M::Key, M::Val)>,
+        right: Tree<M>,
+    ) -> Result<Tree<M>, NoMemory> {
+        join_around::<M>(alloc, left, middle, right)
     }
 }
 
 /// Two trees of which one is empty, or which both have entries.
-fn open_sides<A: Augment, L: Leaf<A::Key, A::Val>, S: BlockSize, W: Combination<A::Key, A::Val>>(
+fn open_sides<M: Shape, W: Combination<M::Key, M::Val>>(
     alloc: Global,
     how: &W,
-    a: TreeOver<A, L, S>,
-    b: TreeOver<A, L, S>,
-) -> Result<
-    Opened<(TreeOver<A, L, S>, TreeOver<A, L, S>), Option<(A::Key, A::Val)>, TreeOver<A, L, S>>,
-    NoMemory,
->
-    ensures { IfOk result (IsOpened (λ _. Unit {0}) (IsAnswer (combined_entries (W.combined how.now)) (a, b)) (IsPutTogether A.Key.cmp (combined_entries (W.combined how.now)) (a, b)) entry_count (entry_count (a, b))) }
+    a: Tree<M>,
+    b: Tree<M>,
+) -> Result<Opened<(Tree<M>, Tree<M>), Option<(M::Key, M::Val)>, Tree<M>>, NoMemory>
+    ensures { IfOk result (IsPairOpened M.Key.cmp (W.combined how.now) (a, b)) }
 {
     let first = a.size();
     let second = b.size();
@@ -97,16 +96,13 @@ fn open_sides<A: Augment, L: Leaf<A::Key, A::Val>, S: BlockSize, W: Combination<
 }
 
 /// Two trees which are small and of like sizes, of which one has few entries, or which are cut at the root of the greater one.
-fn open_both<A: Augment, L: Leaf<A::Key, A::Val>, S: BlockSize, W: Combination<A::Key, A::Val>>(
+fn open_both<M: Shape, W: Combination<M::Key, M::Val>>(
     alloc: Global,
     how: &W,
-    a: &TreeOver<A, L, S>,
-    b: &TreeOver<A, L, S>,
-) -> Result<
-    Opened<(TreeOver<A, L, S>, TreeOver<A, L, S>), Option<(A::Key, A::Val)>, TreeOver<A, L, S>>,
-    NoMemory,
->
-    ensures { IfOk result (IsOpened (λ _. Unit {0}) (IsAnswer (combined_entries (W.combined how.now)) (a.now, b.now)) (IsPutTogether A.Key.cmp (combined_entries (W.combined how.now)) (a.now, b.now)) entry_count (entry_count (a.now, b.now))) }
+    a: &Tree<M>,
+    b: &Tree<M>,
+) -> Result<Opened<(Tree<M>, Tree<M>), Option<(M::Key, M::Val)>, Tree<M>>, NoMemory>
+    ensures { IfOk result (IsPairOpened M.Key.cmp (W.combined how.now) (a.now, b.now)) }
 {
     let first = a.size();
     let second = b.size();
@@ -137,14 +133,14 @@ fn are_small(first: u64, second: u64, block: u64) -> bool
 }
 
 /// Two trees combined as slices.
-fn combine_small<A: Augment, L: Leaf<A::Key, A::Val>, S: BlockSize, W: Combination<A::Key, A::Val>>(
+fn combine_small<M: Shape, W: Combination<M::Key, M::Val>>(
     alloc: Global,
     how: &W,
-    a: &TreeOver<A, L, S>,
-    b: &TreeOver<A, L, S>,
-) -> Result<TreeOver<A, L, S>, NoMemory>
-    requires first { IsIncreasing A.Key.cmp a.now.entries }
-    requires second { IsIncreasing A.Key.cmp b.now.entries }
+    a: &Tree<M>,
+    b: &Tree<M>,
+) -> Result<Tree<M>, NoMemory>
+    requires first { IsIncreasing M.Key.cmp a.now.entries }
+    requires second { IsIncreasing M.Key.cmp b.now.entries }
     ensures { IfOk result (IsAnswer (combined_entries (W.combined how.now)) (a.now, b.now)) }
 {
     let second = entries_of(alloc, b)?;
@@ -152,19 +148,14 @@ fn combine_small<A: Augment, L: Leaf<A::Key, A::Val>, S: BlockSize, W: Combinati
 }
 
 /// Two trees of which the lesser has few entries, which are taken as a slice.
-fn combine_unlike<
-    A: Augment,
-    L: Leaf<A::Key, A::Val>,
-    S: BlockSize,
-    W: Combination<A::Key, A::Val>,
->(
+fn combine_unlike<M: Shape, W: Combination<M::Key, M::Val>>(
     alloc: Global,
     how: &W,
-    a: &TreeOver<A, L, S>,
-    b: &TreeOver<A, L, S>,
-) -> Result<TreeOver<A, L, S>, NoMemory>
-    requires first { IsIncreasing A.Key.cmp a.now.entries }
-    requires second { IsIncreasing A.Key.cmp b.now.entries }
+    a: &Tree<M>,
+    b: &Tree<M>,
+) -> Result<Tree<M>, NoMemory>
+    requires first { IsIncreasing M.Key.cmp a.now.entries }
+    requires second { IsIncreasing M.Key.cmp b.now.entries }
     ensures { IfOk result (IsAnswer (combined_entries (W.combined how.now)) (a.now, b.now)) }
 {
     if a.size() >= b.size() {
@@ -193,25 +184,18 @@ pub(crate) fn keep_entry<K: Key, V: Share, W: Combination<K, V>>(
 }
 
 /// A tree cut at a key of another one, and what stays of that key.
-fn cut_at<A: Augment, L: Leaf<A::Key, A::Val>, S: BlockSize, W: Combination<A::Key, A::Val>>(
+fn cut_at<M: Shape, W: Combination<M::Key, M::Val>>(
     alloc: Global,
     how: &W,
-    key: &A::Key,
-    val: &A::Val,
-    tree: &TreeOver<A, L, S>,
-) -> Result<
-    (
-        TreeOver<A, L, S>,
-        Option<(A::Key, A::Val)>,
-        TreeOver<A, L, S>,
-    ),
-    NoMemory,
->
-    ensures below { IfOk result (λ cut. cut.0.entries ≡ below A.Key.cmp tree.now.entries key.now) }
-    ensures middle { IfOk result (λ cut. cut.1 ≡ entry_at key.now (W.kept how.now (Some val.now) (lookup A.Key.cmp tree.now.entries key.now))) }
-    ensures above { IfOk result (λ cut. cut.2.entries ≡ above A.Key.cmp tree.now.entries key.now) }
+    key: &M::Key,
+    val: &M::Val,
+    tree: &Tree<M>,
+) -> Result<(Tree<M>, Option<(M::Key, M::Val)>, Tree<M>), NoMemory>
+    ensures below { IfOk result (λ cut. cut.0.entries ≡ below M.Key.cmp tree.now.entries key.now) }
+    ensures middle { IfOk result (λ cut. cut.1 ≡ entry_at key.now (W.kept how.now (Some val.now) (lookup M.Key.cmp tree.now.entries key.now))) }
+    ensures above { IfOk result (λ cut. cut.2.entries ≡ above M.Key.cmp tree.now.entries key.now) }
 {
-    let PartsOver {
+    let Parts {
         below,
         found,
         above,
@@ -220,12 +204,12 @@ fn cut_at<A: Augment, L: Leaf<A::Key, A::Val>, S: BlockSize, W: Combination<A::K
     Ok((below, middle, above))
 }
 
-/// Other owners of two trees.
-fn shared_sides<A: Augment, L: Leaf<A::Key, A::Val>, S: BlockSize>(
+/// Other owners of two trees, which a `Combining` takes. O(1). `NoMemory` for want of memory alone.
+pub fn shared_sides<M: Shape>(
     alloc: Global,
-    left: &TreeOver<A, L, S>,
-    right: &TreeOver<A, L, S>,
-) -> Result<(TreeOver<A, L, S>, TreeOver<A, L, S>), NoMemory>
+    left: &Tree<M>,
+    right: &Tree<M>,
+) -> Result<(Tree<M>, Tree<M>), NoMemory>
     ensures near { IfOk result (λ sides. sides.0.entries ≡ left.now.entries) }
     ensures far { IfOk result (λ sides. sides.1.entries ≡ right.now.entries) }
 {
@@ -235,21 +219,18 @@ fn shared_sides<A: Augment, L: Leaf<A::Key, A::Val>, S: BlockSize>(
 }
 
 /// Two trees cut at the root of the first.
-fn cut_first<A: Augment, L: Leaf<A::Key, A::Val>, S: BlockSize, W: Combination<A::Key, A::Val>>(
+fn cut_first<M: Shape, W: Combination<M::Key, M::Val>>(
     alloc: Global,
     how: &W,
-    a: &TreeOver<A, L, S>,
-    b: &TreeOver<A, L, S>,
-) -> Result<
-    Opened<(TreeOver<A, L, S>, TreeOver<A, L, S>), Option<(A::Key, A::Val)>, TreeOver<A, L, S>>,
-    NoMemory,
->
-    requires first { IsIncreasing A.Key.cmp a.now.entries }
-    requires second { IsIncreasing A.Key.cmp b.now.entries }
-    ensures { IfOk result (IsOpened (λ _. Unit {0}) (IsAnswer (combined_entries (W.combined how.now)) (a.now, b.now)) (IsPutTogether A.Key.cmp (combined_entries (W.combined how.now)) (a.now, b.now)) entry_count (entry_count (a.now, b.now))) }
+    a: &Tree<M>,
+    b: &Tree<M>,
+) -> Result<Opened<(Tree<M>, Tree<M>), Option<(M::Key, M::Val)>, Tree<M>>, NoMemory>
+    requires first { IsIncreasing M.Key.cmp a.now.entries }
+    requires second { IsIncreasing M.Key.cmp b.now.entries }
+    ensures { IfOk result (IsPairOpened M.Key.cmp (W.combined how.now) (a.now, b.now)) }
 {
     match a.look() {
-        LookOver::Node {
+        Look::Node {
             left,
             key,
             val,
@@ -264,18 +245,15 @@ fn cut_first<A: Augment, L: Leaf<A::Key, A::Val>, S: BlockSize, W: Combination<A
 }
 
 /// Two trees cut at the root of the second.
-fn cut_second<A: Augment, L: Leaf<A::Key, A::Val>, S: BlockSize, W: Combination<A::Key, A::Val>>(
+fn cut_second<M: Shape, W: Combination<M::Key, M::Val>>(
     alloc: Global,
     how: &W,
-    a: &TreeOver<A, L, S>,
-    b: &TreeOver<A, L, S>,
-) -> Result<
-    Opened<(TreeOver<A, L, S>, TreeOver<A, L, S>), Option<(A::Key, A::Val)>, TreeOver<A, L, S>>,
-    NoMemory,
->
-    requires first { IsIncreasing A.Key.cmp a.now.entries }
-    requires second { IsIncreasing A.Key.cmp b.now.entries }
-    ensures { IfOk result (IsOpened (λ _. Unit {0}) (IsAnswer (combined_entries (W.combined how.now)) (a.now, b.now)) (IsPutTogether A.Key.cmp (combined_entries (W.combined how.now)) (a.now, b.now)) entry_count (entry_count (a.now, b.now))) }
+    a: &Tree<M>,
+    b: &Tree<M>,
+) -> Result<Opened<(Tree<M>, Tree<M>), Option<(M::Key, M::Val)>, Tree<M>>, NoMemory>
+    requires first { IsIncreasing M.Key.cmp a.now.entries }
+    requires second { IsIncreasing M.Key.cmp b.now.entries }
+    ensures { IfOk result (IsPairOpened M.Key.cmp (W.combined how.now) (a.now, b.now)) }
 {
     match cut_first(alloc, &Exchanged { how }, b, a)? {
         Opened::Done(tree) => Ok(Opened::Done(tree)),
@@ -285,45 +263,4 @@ fn cut_second<A: Augment, L: Leaf<A::Key, A::Val>, S: BlockSize, W: Combination<
             Ok(Opened::Split((below, near), middle, (above, far)))
         }
     }
-}
-
-/// The combination of two trees.
-pub(crate) fn combine<
-    R: Threads + Sync,
-    G: Gate,
-    A: SyncAugment,
-    L: Leaf<A::Key, A::Val> + Send + Sync,
-    S: BlockSize + Send + Sync,
-    W: Combination<A::Key, A::Val> + Send + Sync,
->(
-    rt: &R,
-    alloc: Global,
-    gate: &G,
-    cut: Cut,
-    a: &TreeOver<A, L, S>,
-    b: &TreeOver<A, L, S>,
-    how: &W,
-) -> Result<TreeOver<A, L, S>, NoMemory>
-    ensures { IfOk result (λ tree. tree.entries ≡ W.combined how.now a.now.entries b.now.entries) }
-{
-    let sides = (a.share(alloc)?, b.share(alloc)?);
-    divide(rt, alloc, gate, cut, &Combining { how }, sides)
-}
-
-/// The combination of two trees on one thread.
-pub(crate) fn combine_alone<
-    A: Augment,
-    L: Leaf<A::Key, A::Val>,
-    S: BlockSize,
-    W: Combination<A::Key, A::Val>,
->(
-    alloc: Global,
-    a: &TreeOver<A, L, S>,
-    b: &TreeOver<A, L, S>,
-    how: &W,
-) -> Result<TreeOver<A, L, S>, NoMemory>
-    ensures { IfOk result (λ tree. tree.entries ≡ W.combined how.now a.now.entries b.now.entries) }
-{
-    let sides = (a.share(alloc)?, b.share(alloc)?);
-    divide_alone(alloc, &Combining { how }, sides)
 }

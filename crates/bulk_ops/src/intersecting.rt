@@ -5,18 +5,19 @@ ghost use Rattle.map_model.proofs.Intersections.{of_both};
 ghost use Rattle.bulk_ops.specs.Laws.{intersection_laws};
 
 use crate::combination::Combination;
-use crate::combining::{combine, combine_alone};
-use aug_monoid::{Augment, Key, Leaf, NoMemory, Resolve, Share, SyncAugment};
+use aug_monoid::{Key, NoMemory, Resolve, Share};
 use entry_lists::intersect_of;
-use fork_join::{Cut, Gate};
 use std::alloc::Global;
-use std::marker::{Send, Sync};
-use std::thread::Threads;
-use tree_base::{BlockSize, TreeOver};
 
+/// The intersection: the combination of two maps that has the entries whose keys both have, with what `how` makes of the first map's
+/// value and the second's.
+///
+/// `divide` of a `Combining` with it forks, and `divide_alone` does the same on one thread. For maps of m and n entries, m at most
+/// n, O(m * log(n / m + 1)) work and a call of `how` for each key of both; where one map is empty it ends at once. It refuses only for
+/// want of memory.
 #[derive(Drop)]
-struct Intersecting<'a, H> {
-    how: &'a H,
+pub struct Intersecting<'a, H> {
+    pub how: &'a H,
 }
 
 impl<'a, K: Key, V: Share, H: Resolve<V>> Combination<K, V> for Intersecting<'a, H> {
@@ -53,40 +54,4 @@ impl<'a, K: Key, V: Share, H: Resolve<V>> Combination<K, V> for Intersecting<'a,
     ) -> Result<Vec<(K, V)>, NoMemory> {
         intersect_of::<K, V, H>(alloc, a, b, self.how)
     }
-}
-
-/// The entries whose keys both maps have, with what `how` makes of the value in `a` and the value in
-/// `b`. It works as `union` does, in the same time. `NoMemory` for want of memory alone.
-pub fn intersect<
-    R: Threads + Sync,
-    G: Gate,
-    A: SyncAugment,
-    L: Leaf<A::Key, A::Val> + Send + Sync,
-    S: BlockSize + Send + Sync,
-    H: Resolve<A::Val> + Send + Sync,
->(
-    rt: &R,
-    alloc: Global,
-    gate: &G,
-    cut: Cut,
-    a: &TreeOver<A, L, S>,
-    b: &TreeOver<A, L, S>,
-    how: &H,
-) -> Result<TreeOver<A, L, S>, NoMemory>
-    ensures { IfOk result (λ tree. tree.entries ≡ intersection_of_entries A.Key.cmp (H.resolved how.now) a.now.entries b.now.entries) }
-{
-    combine(rt, alloc, gate, cut, a, b, &Intersecting { how })
-}
-
-/// `intersect` on one thread, which asks of values and of `how` nothing about threads. O(m * log(n / m + 1)) for maps of m and n
-/// entries, m at most n. `NoMemory` for want of memory alone.
-pub fn intersect_alone<A: Augment, L: Leaf<A::Key, A::Val>, S: BlockSize, H: Resolve<A::Val>>(
-    alloc: Global,
-    a: &TreeOver<A, L, S>,
-    b: &TreeOver<A, L, S>,
-    how: &H,
-) -> Result<TreeOver<A, L, S>, NoMemory>
-    ensures { IfOk result (λ tree. tree.entries ≡ intersection_of_entries A.Key.cmp (H.resolved how.now) a.now.entries b.now.entries) }
-{
-    combine_alone(alloc, a, b, &Intersecting { how })
 }

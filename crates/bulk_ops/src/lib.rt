@@ -1,8 +1,11 @@
-//! Operations on whole maps, which fork over the halves of their work.
+//! Operations on two whole maps, as work that is divided: union, intersection and difference.
 //!
-//! Each call takes the runtime, the allocator, a gate and a cut first, and its answer depends on none of them. Its twin, whose
-//! name ends in `_alone`, gives the same answer on one thread, and takes of these the allocator alone. The only refusal is want of
-//! memory, which leaves all arguments as they were.
+//! A map is a `Tree` of `tree_shape`. `Combining` is a `Divide` of `fork_join` on two trees, and `Uniting`, `Intersecting` and
+//! `Differing` say what it makes of them. A caller hands it to `divide`, which forks over the halves of the work where a cut allows
+//! it, or to `divide_alone`, which gives the same answer on one thread. The answer depends on neither the runtime nor the gate nor
+//! the cut. The only refusal is want of memory, which leaves the maps that the two trees are shared with as they were.
+//!
+//! It stands on `bulk_passes`, `entry_lists`, `fork_join`, `tree_make`, `tree_cut`, `tree_entry`, `tree_join` and `tree_shape`.
 //!
 //! Tests: `bulk_tests`, `work_tests`. Wrong bodies: none here; `aug_map` states these clauses again.
 #![tactic(auto)]
@@ -17,7 +20,8 @@ mod one;
 mod splitting;
 mod uniting;
 
-pub use bulk_passes::{filter, filter_alone, map_reduce, map_reduce_alone, plant, plant_alone};
-pub use differing::{difference, difference_alone};
-pub use intersecting::{intersect, intersect_alone};
-pub use uniting::{union, union_alone};
+pub use combination::Combination;
+pub use combining::{Combining, shared_sides};
+pub use differing::Differing;
+pub use intersecting::Intersecting;
+pub use uniting::Uniting;

@@ -5,18 +5,19 @@ ghost use Rattle.map_model.proofs.Unions.{united};
 ghost use Rattle.bulk_ops.specs.Laws.{union_laws};
 
 use crate::combination::Combination;
-use crate::combining::{combine, combine_alone};
-use aug_monoid::{Augment, Key, Leaf, NoMemory, Resolve, Share, SyncAugment};
+use aug_monoid::{Key, NoMemory, Resolve, Share};
 use entry_lists::union_of;
-use fork_join::{Cut, Gate};
 use std::alloc::Global;
-use std::marker::{Send, Sync};
-use std::thread::Threads;
-use tree_base::{BlockSize, TreeOver};
 
+/// The union: the combination of two maps that has the entries of either. At a key of both the value is what `how` makes of the first
+/// map's value and the second's.
+///
+/// `divide` of a `Combining` with it forks, and `divide_alone` does the same on one thread. For maps of m and n entries, m at most
+/// n, O(m * log(n / m + 1)) work and a call of `how` for each key of both; where one map is empty it shares the other. It refuses only
+/// for want of memory.
 #[derive(Drop)]
-struct Uniting<'a, H> {
-    how: &'a H,
+pub struct Uniting<'a, H> {
+    pub how: &'a H,
 }
 
 impl<'a, K: Key, V: Share, H: Resolve<V>> Combination<K, V> for Uniting<'a, H> {
@@ -55,44 +56,4 @@ impl<'a, K: Key, V: Share, H: Resolve<V>> Combination<K, V> for Uniting<'a, H> {
     ) -> Result<Vec<(K, V)>, NoMemory> {
         union_of::<K, V, H>(alloc, a, b, self.how)
     }
-}
-
-/// The entries of either map. At a key of both the value is what `how` makes of the value in `a` and
-/// the value in `b`.
-///
-/// The greater map's root splits the lesser map, and the halves are united side by side where the cut
-/// allows it; a side that is empty ends it at once by sharing the other. For maps of m and n entries,
-/// m at most n, about m * log(n / m + 1) work. `NoMemory` for want of memory alone.
-pub fn union<
-    R: Threads + Sync,
-    G: Gate,
-    A: SyncAugment,
-    L: Leaf<A::Key, A::Val> + Send + Sync,
-    S: BlockSize + Send + Sync,
-    H: Resolve<A::Val> + Send + Sync,
->(
-    rt: &R,
-    alloc: Global,
-    gate: &G,
-    cut: Cut,
-    a: &TreeOver<A, L, S>,
-    b: &TreeOver<A, L, S>,
-    how: &H,
-) -> Result<TreeOver<A, L, S>, NoMemory>
-    ensures { IfOk result (λ tree. tree.entries ≡ union_of_entries A.Key.cmp (H.resolved how.now) a.now.entries b.now.entries) }
-{
-    combine(rt, alloc, gate, cut, a, b, &Uniting { how })
-}
-
-/// `union` on one thread, which asks of values and of `how` nothing about threads. O(m * log(n / m + 1)) for maps of m and n
-/// entries, m at most n. `NoMemory` for want of memory alone.
-pub fn union_alone<A: Augment, L: Leaf<A::Key, A::Val>, S: BlockSize, H: Resolve<A::Val>>(
-    alloc: Global,
-    a: &TreeOver<A, L, S>,
-    b: &TreeOver<A, L, S>,
-    how: &H,
-) -> Result<TreeOver<A, L, S>, NoMemory>
-    ensures { IfOk result (λ tree. tree.entries ≡ union_of_entries A.Key.cmp (H.resolved how.now) a.now.entries b.now.entries) }
-{
-    combine_alone(alloc, a, b, &Uniting { how })
 }

@@ -1,14 +1,10 @@
 -- A slice cut around an entry.
-use Rattle.std.proofs.Common.{◌≡◌, ℕ, List, ◌∷◌, ◌++◌, Some, subst}
+use Rattle.std.proofs.Common.{◌≡◌, List, ◌∷◌, ◌++◌, Some, subst}
 use Rattle.std.specs.Borrow.{Bor}
 use Rattle.std.specs.declared.cmp.Ordering.{Ordering}
 use Rattle.map_model.specs.Entries.{IsIncreasing}
-use Rattle.bulk_passes.specs.Answers.{IsPutTogether, slice_entries, CanBePlanted}
+use Rattle.bulk_passes.specs.Answers.{IsPutTogether, slice_entries}
 
 module _ {K V : Type 0} (order : K → K → Ordering) where
   pub cut_slice : (part front back : Bor (List (K × V))) (e : K × V) → part.now ≡ front.now ++ e ∷ back.now → IsIncreasing order part.now → IsPutTogether order slice_entries part front (Some e) back
   cut_slice part front back e is s = record { whole = is; increasing = subst (IsIncreasing order) is s }
-
-  -- a part of the slice that increases
-  pub shorter : (block : ℕ) (part front : Bor (List (K × V))) → CanBePlanted order block part → IsIncreasing order front.now → CanBePlanted order block front
-  shorter block part front can s = record { block_size = can.block_size; increasing = s }

@@ -1,8 +1,7 @@
 -- What the answers of divided work on maps are, and how they are put together.
-use Rattle.std.specs.Prelude.{◌≡◌, ℕ, Bool, Option, List, ◌++◌}
+use Rattle.std.specs.Prelude.{◌≡◌, Bool, Option, List, ◌++◌}
 use Rattle.std.specs.Borrow.{Bor}
 use Rattle.std.specs.List.{cons_option, filter}
-use Rattle.map_model.specs.Balance.{IsBlockSize}
 use Rattle.std.specs.declared.cmp.Ordering.{Ordering}
 use Rattle.map_model.specs.Contents.{Contents}
 use Rattle.map_model.specs.Entries.{IsIncreasing}
@@ -24,8 +23,3 @@ filtered_entries passes tree = filter (λ e. passes e.0 e.1) tree.now.entries
 -- the entries of a slice
 abbrev pub slice_entries : {K V : Type 0} → Bor (List (K × V)) → List (K × V)
 slice_entries slice = slice.now
-
--- a slice that a tree can be made of
-pub record CanBePlanted {K V : Type 0} (order : K → K → Ordering) (block : ℕ) (slice : Bor (List (K × V))) : Type 0 where
-  pub block_size : IsBlockSize block
-  pub increasing : IsIncreasing order slice.now

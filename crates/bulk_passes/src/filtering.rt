@@ -4,60 +4,58 @@ ghost use Rattle.std.specs.List.{filter as filtered};
 ghost use Rattle.map_model.specs.Entries.{IsIncreasing};
 ghost use Rattle.bulk_passes.specs.Answers.{IsAnswer, IsPutTogether, filtered_entries};
 
-use aug_monoid::{Augment, Key, Leaf, NoMemory, Share, SyncAugment, Test, share_entry};
-use fork_join::{Cut, Divide, Gate, Opened, divide, divide_alone};
-use join_core::Part;
+use aug_monoid::{Key, Leaf, NoMemory, Share, Test, share_entry};
+use fork_join::{Divide, Opened};
 use std::alloc::Global;
-use std::marker::{Send, Sync};
-use std::thread::Threads;
-use tree_base::{BlockSize, LookOver, TreeOver};
-use tree_making::{join_around, tree_of};
+use tree_join::Part;
+use tree_make::{join_around, tree_of};
+use tree_shape::{Look, Shape, Tree};
 
 /// A part with at most the entries of this many least blocks is worked on as a slice.
 pub const SLICED_BLOCKS: u64 = 32;
 
+/// The filter of a map: its answer for a tree is the tree of the entries that hold.
+///
+/// A greater tree is opened at its root, and what is left of its two sides is joined around the root's entry, if that holds; a tree
+/// of at most `SLICED_BLOCKS` least blocks is gone through in one pass. `divide` filters the two sides side by side where the cut
+/// allows it, and `divide_alone` does all on one thread, asking of values and of the test nothing about threads. For a map of n
+/// entries O(n) work. It refuses only for want of memory.
 #[derive(Drop)]
-struct Filtering<'a, T> {
-    test: &'a T,
+pub struct Filtering<'a, T> {
+    pub test: &'a T,
 }
 
-impl<'a, A: Augment, L: Leaf<A::Key, A::Val>, S: BlockSize, T: Test<A::Key, A::Val>> Divide<
-    &'a TreeOver<A, L, S>,
-    Option<(A::Key, A::Val)>,
-    TreeOver<A, L, S>,
-> for Filtering<'a, T> {
+impl<'a, M: Shape, T: Test<M::Key, M::Val>> Divide<&'a Tree<M>, Option<(M::Key, M::Val)>, Tree<M>>
+    for Filtering<'a, T> {
     ghost fits = { λ _ _. Unit {0} };
 
     ghost answers = { λ work. IsAnswer (filtered_entries (T.passes work.test.now)) };
 
-    ghost divides = { λ work. IsPutTogether A.Key.cmp (filtered_entries (T.passes work.test.now)) };
+    ghost divides = { λ work. IsPutTogether M.Key.cmp (filtered_entries (T.passes work.test.now)) };
 
     ghost extent = { λ _ part. length part.now.entries };
 
-    fn size(&self, part: &&'a TreeOver<A, L, S>) -> u64 {
+    fn size(&self, part: &&'a Tree<M>) -> u64 {
         part.size()
     }
 
     fn open(
         &self,
         alloc: Global,
-        part: &'a TreeOver<A, L, S>,
-    ) -> Result<
-        Opened<&'a TreeOver<A, L, S>, Option<(A::Key, A::Val)>, TreeOver<A, L, S>>,
-        NoMemory,
-    > {
+        part: &'a Tree<M>,
+    ) -> Result<Opened<&'a Tree<M>, Option<(M::Key, M::Val)>, Tree<M>>, NoMemory> {
         match part.look() {
-            LookOver::Node {
+            Look::Node {
                 left,
                 key,
                 val,
                 right,
             } if part.size() > SLICED_BLOCKS * part.block_size() => {
-                let middle = passing_entry::<A::Key, A::Val, T>(alloc, self.test, key, val)?;
+                let middle = passing_entry::<M::Key, M::Val, T>(alloc, self.test, key, val)?;
                 Ok(Opened::Split(left, middle, right))
             }
             _ => {
-                let kept = filter_small::<A, L, S, T>(alloc, part, self.test)?;
+                let kept = filter_small::<M, T>(alloc, part, self.test)?;
                 Ok(Opened::Done(kept))
             }
         }
@@ -66,11 +64,11 @@ impl<'a, A: Augment, L: Leaf<A::Key, A::Val>, S: BlockSize, T: Test<A::Key, A::V
     fn close(
         &self,
         alloc: Global,
-        left: TreeOver<A, L, S>,
-        middle: Option<(A::Key, A::Val)>,
-        right: TreeOver<A, L, S>,
-    ) -> Result<TreeOver<A, L, S>, NoMemory> {
-        join_around::<A, L, S>(alloc, left, middle, right)
+        left: Tree<M>,
+        middle: Option<(M::Key, M::Val)>,
+        right: Tree<M>,
+    ) -> Result<Tree<M>, NoMemory> {
+        join_around::<M>(alloc, left, middle, right)
     }
 }
 
@@ -127,18 +125,18 @@ fn filter_leaf<K: Key, V: Share, L: Leaf<K, V>, T: Test<K, V>>(
 }
 
 /// Appends the entries of a tree that hold, block by block.
-fn filter_into<A: Augment, L: Leaf<A::Key, A::Val>, S: BlockSize, T: Test<A::Key, A::Val>>(
+fn filter_into<M: Shape, T: Test<M::Key, M::Val>>(
     alloc: Global,
-    part: Part<'_, A, L, S>,
+    part: Part<'_, M>,
     test: &T,
-    out: &mut Vec<(A::Key, A::Val)>,
+    out: &mut Vec<(M::Key, M::Val)>,
 ) -> Result<(), NoMemory>
     ensures { IfOk result (λ _. out.new.items ≡ out.old.items ++ filtered (λ e. T.passes test.now e.0 e.1) part.entry.tree.now.entries) }
 {
     match part.tree.look() {
-        LookOver::Empty => Ok(()),
-        LookOver::Block { leaf } => filter_leaf(alloc, leaf, test, out),
-        LookOver::Node {
+        Look::Empty => Ok(()),
+        Look::Block { leaf } => filter_leaf(alloc, leaf, test, out),
+        Look::Node {
             left,
             key,
             val,
@@ -152,49 +150,15 @@ fn filter_into<A: Augment, L: Leaf<A::Key, A::Val>, S: BlockSize, T: Test<A::Key
 }
 
 /// A small tree, filtered in one pass.
-fn filter_small<A: Augment, L: Leaf<A::Key, A::Val>, S: BlockSize, T: Test<A::Key, A::Val>>(
+fn filter_small<M: Shape, T: Test<M::Key, M::Val>>(
     alloc: Global,
-    tree: &TreeOver<A, L, S>,
+    tree: &Tree<M>,
     test: &T,
-) -> Result<TreeOver<A, L, S>, NoMemory>
+) -> Result<Tree<M>, NoMemory>
     ensures { IfOk result (λ kept. kept.entries ≡ filtered (λ e. T.passes test.now e.0 e.1) tree.now.entries) }
 {
-    let _least = tree.block_size(); // for the proof alone: the block size is lawful
-    let _size = tree.size(); // for the proof alone: keys rise
-    let mut kept = Vec::with_capacity(alloc, tree.size() as usize)?;
+    let size = tree.size();
+    let mut kept = Vec::with_capacity(alloc, size as usize)?;
     filter_into(alloc, Part { tree }, test, &mut kept)?;
     tree_of(alloc, kept)
-}
-
-/// The entries that hold. Linear in the number of entries. `NoMemory` for want of memory alone.
-pub fn filter<
-    R: Threads + Sync,
-    G: Gate,
-    A: SyncAugment,
-    L: Leaf<A::Key, A::Val> + Send + Sync,
-    S: BlockSize + Send + Sync,
-    T: Test<A::Key, A::Val> + Send + Sync,
->(
-    rt: &R,
-    alloc: Global,
-    gate: &G,
-    cut: Cut,
-    tree: &TreeOver<A, L, S>,
-    test: &T,
-) -> Result<TreeOver<A, L, S>, NoMemory>
-    ensures { IfOk result (λ kept. kept.entries ≡ filtered (λ e. T.passes test.now e.0 e.1) tree.now.entries) }
-{
-    divide(rt, alloc, gate, cut, &Filtering { test }, tree)
-}
-
-/// `filter` on one thread, which asks of values and of the test nothing about threads. O(n) for a map of n entries. `NoMemory` for
-/// want of memory alone.
-pub fn filter_alone<A: Augment, L: Leaf<A::Key, A::Val>, S: BlockSize, T: Test<A::Key, A::Val>>(
-    alloc: Global,
-    tree: &TreeOver<A, L, S>,
-    test: &T,
-) -> Result<TreeOver<A, L, S>, NoMemory>
-    ensures { IfOk result (λ kept. kept.entries ≡ filtered (λ e. T.passes test.now e.0 e.1) tree.now.entries) }
-{
-    divide_alone(alloc, &Filtering { test }, tree)
 }

@@ -1,9 +1,10 @@
-//! Passes over one whole map, which fork over the halves of their work: a filter, a reduction, and the map of entries whose keys
-//! rise.
+//! Passes over one whole map, as works that are divided: a filter, a reduction, and the map of entries whose keys rise.
 //!
-//! Each call takes the runtime, the allocator, a gate and a cut first, and its answer depends on none of them. Its twin, whose
-//! name ends in `_alone`, gives the same answer on one thread, and takes of these the allocator alone. The only refusal is want of
-//! memory, which leaves all arguments as they were.
+//! A map is a `Tree` of `tree_shape`. Each struct is a `Divide` of `fork_join`: a caller hands it to `divide`, which forks over the
+//! halves of the work where a cut allows it, or to `divide_alone`, which gives the same answer on one thread. The answer depends on
+//! neither the runtime nor the gate nor the cut. The only refusal is want of memory, which leaves what the work is on as it was.
+//!
+//! It stands on `fork_join`, `tree_make`, `tree_join` and `tree_shape`.
 //!
 //! Tests: `bulk_tests`, `work_tests`. Wrong bodies: none here; `aug_map` states these clauses again.
 #![tactic(auto)]
@@ -13,6 +14,6 @@ mod filtering;
 mod planting;
 mod reducing;
 
-pub use filtering::{SLICED_BLOCKS, filter, filter_alone};
-pub use planting::{plant, plant_alone};
-pub use reducing::{map_reduce, map_reduce_alone};
+pub use filtering::{Filtering, SLICED_BLOCKS};
+pub use planting::Planting;
+pub use reducing::Reducing;

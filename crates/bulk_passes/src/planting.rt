@@ -1,67 +1,61 @@
 //! A tree of increasing entries as work that is divided.
 ghost use Rattle.std.specs.Prelude.{◌≡◌, ◌<◌, ◌∷◌, ◌++◌, length, IfOk, IfSome};
-ghost use Rattle.map_model.specs.Balance.{IsBlockSize};
 ghost use Rattle.map_model.specs.Entries.{IsIncreasing};
-ghost use Rattle.fork_join.specs.Openings.{IsOpened};
-ghost use Rattle.bulk_passes.specs.Answers.{IsAnswer, IsPutTogether, slice_entries, CanBePlanted};
+ghost use Rattle.bulk_passes.specs.Answers.{IsAnswer, IsPutTogether, slice_entries};
 
-use aug_monoid::{Augment, Key, Leaf, NoMemory, Share, SyncAugment, share_entry};
-use fork_join::{Cut, Divide, Gate, Opened, divide, divide_alone};
+use aug_monoid::{Key, NoMemory, Share, share_entry};
+use fork_join::{Divide, Opened};
 use std::alloc::Global;
-use std::marker::{Send, Sync};
-use std::thread::Threads;
-use tree_base::{BlockSize, TreeOver};
-use tree_making::{join_around, tree_of_slice};
+use tree_make::{join_around, tree_of_slice};
+use tree_shape::{Shape, Tree};
 
 /// How many entries at most are made into a tree in one piece.
 const PIECE: usize = 1024;
 
+/// The map of entries whose keys rise: its answer for a slice of them is the tree of just these.
+///
+/// A long slice is cut at its middle entry, and the trees of its two halves are joined around that entry; a short one is made into a
+/// tree in one piece. `divide` makes the halves side by side where the cut allows it, and `divide_alone` does all on one thread,
+/// asking of values nothing about threads. For n entries O(n) work. It refuses only for want of memory.
 #[derive(Drop)]
-struct Planting;
+pub struct Planting;
 
-impl<'a, A: Augment, L: Leaf<A::Key, A::Val>, S: BlockSize> Divide<
-    &'a [(A::Key, A::Val)],
-    Option<(A::Key, A::Val)>,
-    TreeOver<A, L, S>,
-> for Planting {
-    ghost fits = { λ _. CanBePlanted A.Key.cmp S.SIZE };
+impl<'a, M: Shape> Divide<&'a [(M::Key, M::Val)], Option<(M::Key, M::Val)>, Tree<M>> for Planting {
+    ghost fits = { λ _ part. IsIncreasing M.Key.cmp part.now };
 
     ghost answers = { λ _. IsAnswer slice_entries };
 
-    ghost divides = { λ _. IsPutTogether A.Key.cmp slice_entries };
+    ghost divides = { λ _. IsPutTogether M.Key.cmp slice_entries };
 
     ghost extent = { λ _ part. length part.now };
 
-    fn size(&self, part: &&'a [(A::Key, A::Val)]) -> u64 {
+    fn size(&self, part: &&'a [(M::Key, M::Val)]) -> u64 {
         part.len() as u64
     }
 
     fn open(
         &self,
         alloc: Global,
-        part: &'a [(A::Key, A::Val)],
-    ) -> Result<
-        Opened<&'a [(A::Key, A::Val)], Option<(A::Key, A::Val)>, TreeOver<A, L, S>>,
-        NoMemory,
-    > {
+        part: &'a [(M::Key, M::Val)],
+    ) -> Result<Opened<&'a [(M::Key, M::Val)], Option<(M::Key, M::Val)>, Tree<M>>, NoMemory> {
         if part.len() > PIECE {
-            if let Some((front, middle, back)) = halves::<A::Key, A::Val>(part) {
-                let entry = share_entry::<A::Key, A::Val>(alloc, &middle.0, &middle.1)?;
+            if let Some((front, middle, back)) = halves::<M::Key, M::Val>(part) {
+                let entry = share_entry::<M::Key, M::Val>(alloc, &middle.0, &middle.1)?;
                 return Ok(Opened::Split(front, Some(entry), back));
             }
         }
-        let tree = tree_of_slice::<A, L, S>(alloc, part)?;
+        let tree = tree_of_slice::<M>(alloc, part)?;
         Ok(Opened::Done(tree))
     }
 
     fn close(
         &self,
         alloc: Global,
-        left: TreeOver<A, L, S>,
-        middle: Option<(A::Key, A::Val)>,
-        right: TreeOver<A, L, S>,
-    ) -> Result<TreeOver<A, L, S>, NoMemory> {
-        join_around::<A, L, S>(alloc, left, middle, right)
+        left: Tree<M>,
+        middle: Option<(M::Key, M::Val)>,
+        right: Tree<M>,
+    ) -> Result<Tree<M>, NoMemory> {
+        join_around::<M>(alloc, left, middle, right)
     }
 }
 
@@ -77,38 +71,4 @@ fn halves<'a, K: Key, V>(entries: &'a [(K, V)]) -> Option<(&'a [(K, V)], &'a (K,
     let (front, rest) = entries.split_at(entries.len() / 2);
     let (middle, back) = rest.split_first()?;
     Some((front, middle, back))
-}
-
-/// The map of entries whose keys rise, made by halves where the cut allows it, in time linear in their number. `NoMemory` for
-/// want of memory alone.
-pub fn plant<
-    R: Threads + Sync,
-    G: Gate,
-    A: SyncAugment,
-    L: Leaf<A::Key, A::Val> + Send + Sync,
-    S: BlockSize + Send + Sync,
->(
-    rt: &R,
-    alloc: Global,
-    gate: &G,
-    cut: Cut,
-    entries: &[(A::Key, A::Val)],
-) -> Result<TreeOver<A, L, S>, NoMemory>
-    requires block_size { IsBlockSize S.SIZE }
-    requires increasing { IsIncreasing A.Key.cmp entries.now }
-    ensures { IfOk result (λ tree. tree.entries ≡ entries.now) }
-{
-    divide(rt, alloc, gate, cut, &Planting, entries)
-}
-
-/// `plant` on one thread, which asks of values nothing about threads. O(n) for n entries. `NoMemory` for want of memory alone.
-pub fn plant_alone<A: Augment, L: Leaf<A::Key, A::Val>, S: BlockSize>(
-    alloc: Global,
-    entries: &[(A::Key, A::Val)],
-) -> Result<TreeOver<A, L, S>, NoMemory>
-    requires block_size { IsBlockSize S.SIZE }
-    requires increasing { IsIncreasing A.Key.cmp entries.now }
-    ensures { IfOk result (λ tree. tree.entries ≡ entries.now) }
-{
-    divide_alone(alloc, &Planting, entries)
 }

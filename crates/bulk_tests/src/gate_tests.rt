@@ -2,7 +2,6 @@
 
 use crate::runs::multiples_of;
 use aug_monoid::{Leaf, Second};
-use bulk_ops::union;
 use fork_join::Cut;
 use leaf_blocks::PlainLeaf;
 use meeting::Meeting;
@@ -17,10 +16,12 @@ fn united_halves<R: Threads + Abort + Sync, L: Leaf<u64, u64> + Send + Sync>(
     alloc: Global,
 ) -> (u64, u64, u64, bool) {
     let cut = Cut::new(2, 1);
-    let a = multiples_of(2, 0, 8192).tree::<R, L, 32>(rt, alloc, cut);
-    let b = multiples_of(3, 0, 12288).tree::<R, L, 32>(rt, alloc, cut);
+    let a = multiples_of(2, 0, 8192).built::<R, L, 32>(rt, alloc, cut);
+    let b = multiples_of(3, 0, 12288).built::<R, L, 32>(rt, alloc, cut);
     let gate = Meeting::new();
-    let both = union(rt, alloc, &gate, cut, &a, &b, &Second).expect(rt, "memory");
+    let both = a
+        .union(rt, alloc, &gate, cut, &b, &Second)
+        .expect(rt, "memory");
     (a.size(), b.size(), both.size(), gate.was_met())
 }
 

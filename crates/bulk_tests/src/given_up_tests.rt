@@ -1,11 +1,10 @@
 //! Unions of maps that are given up, at concrete types, against plain lists.
 ghost use Rattle.std.specs.Ordering.{nat_cmp};
-ghost use Rattle.map_model.specs.Balance.{IsBlockSize};
 ghost use Rattle.map_model.specs.Entries.{IsIncreasing};
 
 use crate::runs::{Multiples, Sums, assert_has, assert_made, multiples_of};
+use aug_map::IntoEntries;
 use aug_monoid::{First, Leaf, NoMemory, Share};
-use bulk_changes::{IntoEntries, union_into, union_into_alone};
 use diff_leaf::DiffLeaf;
 use fork_join::{Cut, FreeGate};
 use leaf_blocks::PlainLeaf;
@@ -18,14 +17,12 @@ use std::thread::Threads;
 fn entries_of<R: Abort, L: Leaf<u64, u64>, const B: usize>(
     rt: &R,
     alloc: Global,
-    tree: &Sums<L, B>,
+    map: &Sums<L, B>,
 ) -> Vec<(u64, u64)>
     ensures { IsIncreasing nat_cmp result.items }
 {
-    let _size = tree.size(); // for the proof alone: keys rise
-    let mut entries = Vec::new(alloc);
-    tree.push_entries(alloc, &mut entries).expect(rt, "memory");
-    entries
+    let _size = map.size(); // for the proof alone: keys rise
+    map.to_vec(alloc).expect(rt, "memory")
 }
 
 // The entries of a union, key by key: at a key of both the value is the first one's.
@@ -44,14 +41,14 @@ fn union_by<R: Threads + Sync, L: IntoEntries<u64, u64> + Send + Sync, const B: 
     rt: &R,
     alloc: Global,
     cut: Option<Cut>,
-    tree: Sums<L, B>,
+    map: Sums<L, B>,
     list: &[(u64, u64)],
 ) -> Result<Sums<L, B>, NoMemory>
     requires { IsIncreasing nat_cmp list.now }
 {
     match cut {
-        Some(cut) => union_into(rt, alloc, &FreeGate, cut, tree, list, &First),
-        None => union_into_alone(alloc, tree, list, &First),
+        Some(cut) => map.union_into(rt, alloc, &FreeGate, cut, list, &First),
+        None => map.union_into_alone(alloc, list, &First),
     }
 }
 
@@ -63,18 +60,16 @@ fn assert_united<R: Threads + Abort + Sync, L: IntoEntries<u64, u64> + Send + Sy
     cut: Option<Cut>,
     a: Multiples,
     b: Multiples,
-)
-    requires { IsBlockSize B }
-{
+) {
     let list = entries_of(
         rt,
         alloc,
-        &b.tree_over::<R, PlainLeaf<u64, u64>, 1>(rt, alloc),
+        &b.built_alone::<R, PlainLeaf<u64, u64>, 1>(rt, alloc),
     );
     let wanted = united(rt, alloc, a, b);
-    let tree = a.tree_over::<R, L, B>(rt, alloc);
-    let copy = tree.share(alloc).expect(rt, "memory");
-    assert_made(rt, alloc, union_by(rt, alloc, cut, tree, &list), &wanted);
+    let map = a.built_alone::<R, L, B>(rt, alloc);
+    let copy = map.share(alloc).expect(rt, "memory");
+    assert_made(rt, alloc, union_by(rt, alloc, cut, map, &list), &wanted);
     assert_has(rt, alloc, &copy, &united(rt, alloc, a, a));
     assert_made(rt, alloc, union_by(rt, alloc, cut, copy, &list), &wanted);
 }

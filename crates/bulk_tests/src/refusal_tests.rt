@@ -1,12 +1,10 @@
 //! An augmented value that can't be combined to one sum.
 ghost use Rattle.std.specs.Prelude.{◌+◌, ◌-◌, ◌^◌, ◌<◌, min};
 ghost use Rattle.std.proofs.Common.{arith};
-ghost use Rattle.map_model.specs.Balance.{IsBlockSize};
 
 use crate::runs::assert_has;
+use aug_map::Map;
 use aug_monoid::{Augment, First, Leaf, NoMemory, Steps, Test};
-use batch_ops::build;
-use bulk_ops::{filter, union};
 use fork_join::{Cut, FreeGate};
 use leaf_blocks::PlainLeaf;
 use std::alloc::Global;
@@ -14,7 +12,6 @@ use std::marker::{Send, Sync};
 use std::process::Abort;
 use std::sync::ledger::Ledger;
 use std::thread::Threads;
-use tree_base::Tree;
 
 /// The saturating sum of the values, which is refused where it is 1000.
 #[derive(Drop)]
@@ -71,7 +68,7 @@ impl Augment for OtherSums {
     }
 }
 
-type Capped<L, const B: usize> = Tree<OtherSums, L, B>;
+type Capped<L, const B: usize> = Map<OtherSums, L, B>;
 
 #[derive(Drop)]
 struct KeyBelow {
@@ -101,19 +98,15 @@ fn built<R: Threads + Abort + Sync, L: Leaf<u64, u64> + Send + Sync, const B: us
     rt: &R,
     alloc: Global,
     pairs: &[(u64, u64)],
-) -> Result<Capped<L, B>, NoMemory>
-    requires { IsBlockSize B }
-{
-    build(rt, alloc, &FreeGate, Cut::new(4, 1), pairs)
+) -> Result<Capped<L, B>, NoMemory> {
+    Map::build(rt, alloc, &FreeGate, Cut::new(4, 1), pairs)
 }
 
 // Asserts that a build is refused.
 fn assert_build_refused<R: Threads + Abort + Sync, L: Leaf<u64, u64> + Send + Sync, const B: usize>(
     rt: &R,
     alloc: Global,
-)
-    requires { IsBlockSize B }
-{
+) {
     let pairs = ones(rt, alloc, 0, 1000);
     assert!(rt; built::<R, L, B>(rt, alloc, &pairs).is_err());
 }
@@ -122,15 +115,13 @@ fn assert_build_refused<R: Threads + Abort + Sync, L: Leaf<u64, u64> + Send + Sy
 fn assert_union_refused<R: Threads + Abort + Sync, L: Leaf<u64, u64> + Send + Sync, const B: usize>(
     rt: &R,
     alloc: Global,
-)
-    requires { IsBlockSize B }
-{
+) {
     let low = ones(rt, alloc, 0, 500);
     let high = ones(rt, alloc, 500, 1000);
     let a = built::<R, L, B>(rt, alloc, &low).expect(rt, "memory");
     let b = built::<R, L, B>(rt, alloc, &high).expect(rt, "memory");
     let cut = Cut::new(4, 1);
-    assert!(rt; union(rt, alloc, &FreeGate, cut, &a, &b, &First).is_err());
+    assert!(rt; a.union(rt, alloc, &FreeGate, cut, &b, &First).is_err());
     assert_has(rt, alloc, &a, &low);
     assert_has(rt, alloc, &b, &high);
 }
@@ -140,23 +131,22 @@ fn assert_filter_refused<
     R: Threads + Abort + Sync,
     L: Leaf<u64, u64> + Send + Sync,
     const B: usize,
->(rt: &R, alloc: Global)
-    requires { IsBlockSize B }
-{
+>(rt: &R, alloc: Global) {
     let pairs = ones(rt, alloc, 0, 1001);
-    let tree = built::<R, L, B>(rt, alloc, &pairs).expect(rt, "memory");
+    let map = built::<R, L, B>(rt, alloc, &pairs).expect(rt, "memory");
     let below = KeyBelow { limit: 1000 };
-    assert!(rt; filter(rt, alloc, &FreeGate, Cut::new(4, 1), &tree, &below).is_err());
-    assert_has(rt, alloc, &tree, &pairs);
+    assert!(rt;
+        map.filter(rt, alloc, &FreeGate, Cut::new(4, 1), &below)
+            .is_err()
+    );
+    assert_has(rt, alloc, &map, &pairs);
 }
 
 // Asserts that a build, a union and a filter are refused where the sum is 1000, and leave their arguments.
 fn assert_refusals<R: Threads + Abort + Sync, L: Leaf<u64, u64> + Send + Sync, const B: usize>(
     rt: &R,
     alloc: Global,
-)
-    requires { IsBlockSize B }
-{
+) {
     assert_build_refused::<R, L, B>(rt, alloc);
     assert_union_refused::<R, L, B>(rt, alloc);
     assert_filter_refused::<R, L, B>(rt, alloc);

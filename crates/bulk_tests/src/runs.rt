@@ -1,16 +1,15 @@
 //! Maps of multiples, and their entries. Where memory is refused, a test ends here.
-ghost use Rattle.map_model.specs.Balance.{IsBlockSize};
 
-use aug_monoid::{Augment, Leaf, NoMemory, SumMax};
-use batch_ops::{build, build_alone};
+use aug_map::Map;
+use aug_map::shaped::{Map as ShapedMap, Shape};
+use aug_monoid::{Leaf, NoMemory, SumMax};
 use fork_join::{Cut, FreeGate};
 use std::alloc::Global;
 use std::marker::{Send, Sync};
 use std::process::Abort;
 use std::thread::Threads;
-use tree_base::Tree;
 
-pub(crate) type Sums<L, const B: usize> = Tree<SumMax<u64>, L, B>;
+pub(crate) type Sums<L, const B: usize> = Map<SumMax<u64>, L, B>;
 
 /// The multiples of a step from a number on and below another.
 #[derive(Clone, Copy, Debug)]
@@ -46,40 +45,35 @@ impl Multiples {
     }
 
     /// The map of the multiples.
-    pub(crate) fn tree<R: Threads + Abort + Sync, L: Leaf<u64, u64> + Send + Sync, const B: usize>(
+    pub(crate) fn built<R: Threads + Abort + Sync, L: Leaf<u64, u64> + Send + Sync, const B: usize>(
         self,
         rt: &R,
         alloc: Global,
         cut: Cut,
-    ) -> Sums<L, B>
-        requires { IsBlockSize B }
-    {
+    ) -> Sums<L, B> {
         let pairs = self.falling(rt, alloc);
-        build(rt, alloc, &FreeGate, cut, pairs.as_slice()).expect(rt, "memory")
+        Map::build(rt, alloc, &FreeGate, cut, pairs.as_slice()).expect(rt, "memory")
     }
 
-    /// The same in any blocks, built on one thread.
-    pub(crate) fn tree_over<R: Abort, L: Leaf<u64, u64>, const B: usize>(
+    /// The same, built on one thread.
+    pub(crate) fn built_alone<R: Abort, L: Leaf<u64, u64>, const B: usize>(
         self,
         rt: &R,
         alloc: Global,
-    ) -> Sums<L, B>
-        requires { IsBlockSize B }
-    {
+    ) -> Sums<L, B> {
         let pairs = self.falling(rt, alloc);
-        build_alone(alloc, pairs.as_slice()).expect(rt, "memory")
+        Map::build_alone(alloc, pairs.as_slice()).expect(rt, "memory")
     }
 }
 
 /// Asserts that a map has these entries.
-pub(crate) fn assert_has<
-    R: Abort,
-    A: Augment<Key = u64, Val = u64>,
-    L: Leaf<u64, u64>,
-    const B: usize,
->(rt: &R, alloc: Global, tree: &Tree<A, L, B>, wanted: &[(u64, u64)]) {
-    let mut entries = Vec::new(alloc);
-    tree.push_entries(alloc, &mut entries).expect(rt, "memory");
+pub(crate) fn assert_has<R: Abort, M: Shape<Key = u64, Val = u64>>(
+    rt: &R,
+    alloc: Global,
+    map: &ShapedMap<M>,
+    wanted: &[(u64, u64)],
+) {
+    let entries = map.to_vec(alloc).expect(rt, "memory");
     assert_eq!(rt; entries.as_slice(), wanted);
 }
 
@@ -87,8 +81,8 @@ pub(crate) fn assert_has<
 pub(crate) fn assert_made<R: Abort, L: Leaf<u64, u64>, const B: usize>(
     rt: &R,
     alloc: Global,
-    tree: Result<Sums<L, B>, NoMemory>,
+    map: Result<Sums<L, B>, NoMemory>,
     wanted: &[(u64, u64)],
 ) {
-    assert_has(rt, alloc, &tree.expect(rt, "memory"), wanted);
+    assert_has(rt, alloc, &map.expect(rt, "memory"), wanted);
 }

@@ -1,17 +1,8 @@
 //! Each operation at concrete types, against plain lists.
-ghost use Rattle.map_model.specs.Balance.{IsBlockSize};
 
 use crate::runs::{Multiples, Sums, assert_has, assert_made, multiples_of};
+use aug_map::{IntoEntries, Map};
 use aug_monoid::{First, Leaf, NoMemory, Reduce, Second, Share, Test};
-use batch_ops::{
-    build, build_alone, multi_del, multi_del_alone, multi_put, multi_put_alone, multi_put_into,
-    multi_put_into_alone,
-};
-use bulk_changes::IntoEntries;
-use bulk_ops::{
-    difference, difference_alone, filter, filter_alone, intersect, intersect_alone, map_reduce,
-    map_reduce_alone, union, union_alone,
-};
 use fork_join::{Cut, FreeGate};
 use leaf_blocks::PlainLeaf;
 use std::alloc::Global;
@@ -65,16 +56,14 @@ fn answer_of<R: Threads + Sync, L: Leaf<u64, u64> + Send + Sync, const B: usize>
     call: Combined,
     a: &Sums<L, B>,
     b: &Sums<L, B>,
-) -> Result<Sums<L, B>, NoMemory>
-    requires { IsBlockSize B }
-{
+) -> Result<Sums<L, B>, NoMemory> {
     match call {
-        Combined::Union => union(rt, alloc, &FreeGate, cut, a, b, &First),
-        Combined::UnionAlone => union_alone(alloc, a, b, &First),
-        Combined::Intersection => intersect(rt, alloc, &FreeGate, cut, a, b, &Second),
-        Combined::IntersectionAlone => intersect_alone(alloc, a, b, &Second),
-        Combined::Difference => difference(rt, alloc, &FreeGate, cut, a, b),
-        Combined::DifferenceAlone => difference_alone(alloc, a, b),
+        Combined::Union => a.union(rt, alloc, &FreeGate, cut, b, &First),
+        Combined::UnionAlone => a.union_alone(alloc, b, &First),
+        Combined::Intersection => a.intersect(rt, alloc, &FreeGate, cut, b, &Second),
+        Combined::IntersectionAlone => a.intersect_alone(alloc, b, &Second),
+        Combined::Difference => a.difference(rt, alloc, &FreeGate, cut, b),
+        Combined::DifferenceAlone => a.difference_alone(alloc, b),
     }
 }
 
@@ -87,11 +76,9 @@ fn assert_answer<R: Threads + Abort + Sync, L: Leaf<u64, u64> + Send + Sync, con
     a: Multiples,
     b: Multiples,
     wanted: &[(u64, u64)],
-)
-    requires { IsBlockSize B }
-{
-    let first = a.tree::<R, L, B>(rt, alloc, cut);
-    let second = b.tree::<R, L, B>(rt, alloc, cut);
+) {
+    let first = a.built::<R, L, B>(rt, alloc, cut);
+    let second = b.built::<R, L, B>(rt, alloc, cut);
     assert_made(
         rt,
         alloc,
@@ -184,23 +171,25 @@ fn assert_batches<R: Threads + Abort + Sync, L: Leaf<u64, u64> + Send + Sync>(
     alloc: Global,
 ) {
     let cut = Cut::new(2, 1);
-    let built: Result<Sums<L, 2>, NoMemory> = build(rt, alloc, &FreeGate, cut, PAIRS);
+    let built: Result<Sums<L, 2>, NoMemory> = Map::build(rt, alloc, &FreeGate, cut, PAIRS);
     let built = built.expect(rt, "memory");
     assert_has(rt, alloc, &built, BUILT);
-    let put = multi_put(rt, alloc, &FreeGate, cut, &built, PUTS).expect(rt, "memory");
+    let put = built
+        .multi_put(rt, alloc, &FreeGate, cut, PUTS)
+        .expect(rt, "memory");
     assert_has(rt, alloc, &put, AFTER_PUTS);
-    let left = multi_del(rt, alloc, &FreeGate, cut, &put, KEYS);
+    let left = put.multi_del(rt, alloc, &FreeGate, cut, KEYS);
     assert_made(rt, alloc, left, AFTER_DELS);
 }
 
 // The same on one thread.
 fn assert_batches_alone<R: Abort, L: Leaf<u64, u64>>(rt: &R, alloc: Global) {
-    let built: Result<Sums<L, 2>, NoMemory> = build_alone(alloc, PAIRS);
+    let built: Result<Sums<L, 2>, NoMemory> = Map::build_alone(alloc, PAIRS);
     let built = built.expect(rt, "memory");
     assert_has(rt, alloc, &built, BUILT);
-    let put = multi_put_alone(alloc, &built, PUTS).expect(rt, "memory");
+    let put = built.multi_put_alone(alloc, PUTS).expect(rt, "memory");
     assert_has(rt, alloc, &put, AFTER_PUTS);
-    assert_made(rt, alloc, multi_del_alone(alloc, &put, KEYS), AFTER_DELS);
+    assert_made(rt, alloc, put.multi_del_alone(alloc, KEYS), AFTER_DELS);
 }
 
 // Asserts what a map that is given up is after puts, first while it has another owner, which keeps its entries.
@@ -208,16 +197,16 @@ fn assert_put_into<R: Threads + Abort + Sync, L: IntoEntries<u64, u64> + Send + 
     rt: &R,
     alloc: Global,
 ) {
-    let built: Result<Sums<L, 2>, NoMemory> = build_alone(alloc, PAIRS);
+    let built: Result<Sums<L, 2>, NoMemory> = Map::build_alone(alloc, PAIRS);
     let built = built.expect(rt, "memory");
     let copy = built.share(alloc).expect(rt, "memory");
-    let put = multi_put_into(rt, alloc, &FreeGate, Cut::new(2, 1), built, PUTS);
+    let put = built.multi_put_into(rt, alloc, &FreeGate, Cut::new(2, 1), PUTS);
     assert_made(rt, alloc, put, AFTER_PUTS);
     assert_has(rt, alloc, &copy, BUILT);
     assert_made(
         rt,
         alloc,
-        multi_put_into_alone(alloc, copy, PUTS),
+        copy.multi_put_into_alone(alloc, PUTS),
         AFTER_PUTS,
     );
 }
@@ -299,10 +288,14 @@ fn filtered_sum<R: Threads + Abort + Sync, L: Leaf<u64, u64> + Send + Sync>(
     cut: Cut,
     limit: u64,
 ) -> (u64, u64) {
-    let all = multiples_of(1, 0, 1000).tree::<R, L, 2>(rt, alloc, cut);
+    let all = multiples_of(1, 0, 1000).built::<R, L, 2>(rt, alloc, cut);
     let below = KeyBelow { limit };
-    let part = filter(rt, alloc, &FreeGate, cut, &all, &below).expect(rt, "memory");
-    let sum = map_reduce(rt, alloc, &FreeGate, cut, &part, &KeySum).expect(rt, "memory");
+    let part = all
+        .filter(rt, alloc, &FreeGate, cut, &below)
+        .expect(rt, "memory");
+    let sum = part
+        .map_reduce(rt, alloc, &FreeGate, cut, &KeySum)
+        .expect(rt, "memory");
     (part.size(), sum)
 }
 
@@ -313,9 +306,11 @@ fn filtered_sum_alone<R: Threads + Abort + Sync, L: Leaf<u64, u64> + Send + Sync
     cut: Cut,
     limit: u64,
 ) -> (u64, u64) {
-    let all = multiples_of(1, 0, 1000).tree::<R, L, 2>(rt, alloc, cut);
-    let part = filter_alone(alloc, &all, &KeyBelow { limit }).expect(rt, "memory");
-    let sum = map_reduce_alone(alloc, &part, &KeySum).expect(rt, "memory");
+    let all = multiples_of(1, 0, 1000).built::<R, L, 2>(rt, alloc, cut);
+    let part = all
+        .filter_alone(alloc, &KeyBelow { limit })
+        .expect(rt, "memory");
+    let sum = part.map_reduce_alone(alloc, &KeySum).expect(rt, "memory");
     (part.size(), sum)
 }
 

@@ -9,7 +9,7 @@ use crate::labelled::Labelled;
 use crate::spanning::spanned;
 use crate::vertices::vertices_of;
 use aug_monoid::NoMemory;
-use fork_join::{Cut, Gate};
+use fork_join::{Cut, Gate, On};
 use graph_snap::{Edge, Graph};
 use std::alloc::Global;
 use std::marker::Sync;
@@ -34,10 +34,8 @@ fn labelled(alloc: Global, vertices: &[u64], parents: &[usize]) -> Result<Vec<La
 
 // The forest of edges whose ends are vertices in order; each parent is a root.
 fn flat_forest<R: Threads + Sync, G: Gate>(
-    rt: &R,
+    on: On<R, G>,
     alloc: Global,
-    gate: &G,
-    cut: Cut,
     vertices: &[u64],
     edges: &[Edge],
 ) -> Result<Vec<usize>, NoMemory>
@@ -45,24 +43,22 @@ fn flat_forest<R: Threads + Sync, G: Gate>(
     ensures spans { IfOk result (λ parents. Spans vertices.now edges.now parents.items) }
     ensures flat { IfOk result (λ parents. IsFlat parents.items) }
 {
-    let mut parents = spanned(rt, alloc, gate, cut, vertices, edges)?;
+    let mut parents = spanned(on, alloc, vertices, edges)?;
     flatten(parents.as_mut_slice());
     Ok(parents)
 }
 
 // The components that edges make.
 fn components_of<R: Threads + Sync, G: Gate>(
-    rt: &R,
+    on: On<R, G>,
     alloc: Global,
-    gate: &G,
-    cut: Cut,
     edges: &[Edge],
 ) -> Result<Vec<Labelled>, NoMemory>
     ensures { IfOk result (λ found. AreComponents (pairs_of edges.now) found.items) }
 {
-    let vertices = vertices_of(rt, alloc, gate, cut, edges)?;
+    let vertices = vertices_of(on, alloc, edges)?;
     let known = vertices.as_slice();
-    let parents = flat_forest(rt, alloc, gate, cut, known, edges)?;
+    let parents = flat_forest(on, alloc, known, edges)?;
     let list = labelled(alloc, known, parents.as_slice())?;
     Ok(list)
 }
@@ -84,6 +80,6 @@ pub fn components<R: Threads + Sync, G: Gate>(
     ensures least { IfOk result (λ found. AreComponents graph.now found.items) }
 {
     let edges = graph.list(alloc)?;
-    let list = components_of(rt, alloc, gate, cut, &edges)?;
+    let list = components_of(On { rt, gate, cut }, alloc, &edges)?;
     Ok(list)
 }

@@ -5,7 +5,7 @@ ghost use Rattle.graph_comp.specs.Forests.{HasEnds, Spans};
 use crate::forest::{roots, unite, unite_all};
 use crate::vertices::place_of;
 use aug_monoid::NoMemory;
-use fork_join::{Cut, Divide, Gate, Opened, divide};
+use fork_join::{Cut, Divide, Gate, On, Opened, divide};
 use graph_snap::Edge;
 use std::alloc::Global;
 use std::marker::Sync;
@@ -95,16 +95,14 @@ fn most_at_once(cut: Cut, vertices: usize, edges: usize) -> usize {
 /// parts as workers, or up to twice as many, and no further where a part has about a quarter as many edges as there are vertices.
 /// For n vertices and m edges, which are at least half as many, it takes O(m * log n) time.
 pub(crate) fn spanned<R: Threads + Sync, G: Gate>(
-    rt: &R,
+    on: On<R, G>,
     alloc: Global,
-    gate: &G,
-    cut: Cut,
     vertices: &[u64],
     edges: &[Edge],
 ) -> Result<Vec<usize>, NoMemory>
     requires { HasEnds vertices.now edges.now }
     ensures { IfOk result (λ parents. Spans vertices.now edges.now parents.items) }
 {
-    let most = most_at_once(cut, vertices.len(), edges.len());
-    divide(rt, alloc, gate, cut, &Spanning { vertices, most }, edges)
+    let most = most_at_once(on.cut, vertices.len(), edges.len());
+    divide(on, alloc, &Spanning { vertices, most }, edges)
 }

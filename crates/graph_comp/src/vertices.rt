@@ -7,7 +7,7 @@ ghost use Rattle.graph_snap.specs.Edges.{pairs_of};
 ghost use Rattle.graph_comp.specs.Components.{ends};
 
 use aug_monoid::NoMemory;
-use fork_join::{Cut, Gate};
+use fork_join::{Gate, On};
 use gathering::{Gives, set_of};
 use graph_snap::Edge;
 use std::alloc::Global;
@@ -43,15 +43,13 @@ fn without_values(alloc: Global, keys: &[(u64, ())]) -> Result<Vec<u64>, NoMemor
 
 /// The ends of all edges, in order, gathered in parts that fork where the cut allows it.
 pub(crate) fn vertices_of<R: Threads + Sync, G: Gate>(
-    rt: &R,
+    on: On<R, G>,
     alloc: Global,
-    gate: &G,
-    cut: Cut,
     edges: &[Edge],
 ) -> Result<Vec<u64>, NoMemory>
     ensures { IfOk result (λ vertices. vertices.items ≡ ends (pairs_of edges.now)) }
 {
-    let keys = set_of(rt, alloc, gate, cut, &Ends, edges)?;
+    let keys = set_of(on, alloc, &Ends, edges)?;
     let vertices = without_values(alloc, &keys)?;
     Ok(vertices)
 }

@@ -9,8 +9,8 @@ use Rattle.std.specs.contracts.prelude.U64Ord.TheImpl as ordered
 use Rattle.std.specs.contracts.prelude.U64PartialEq.TheImpl as equal
 use Rattle.std.specs.contracts.prelude.U64PartialOrd.TheImpl as compared
 use Rattle.aug_monoid.specs.contracts.share.U64Share.TheImpl as shared
-use Rattle.tree_base.proofs.tree.TreeOver.TheLaws.TheKnot.{both_send-TreeOver as tree_send, both_sync-TreeOver as tree_sync}
-use Rattle.tree_base.proofs.tree.Block.TheSendSync as Block
+use Rattle.tree_shape.proofs.tree.Tree.TheLaws.TheKnot.{both_send-Tree as tree_send, both_sync-Tree as tree_sync}
+use Rattle.tree_shape.proofs.tree.Block.TheSendSync as Block
 use Rattle.leaf_blocks.proofs.plain_leaf.PlainLeaf.TheSendSync as PlainLeafSent
 use Rattle.leaf_blocks.specs.contracts.plain_leaf.PlainLeaf as PlainLeaf
 use Rattle.diff_leaf.proofs.leaf.DiffLeaf.TheSendSync as DiffLeaf
@@ -33,11 +33,11 @@ block_send = PlainLeafSent.the_send u64-field.row Neighbours.the_row shared.ghos
 pub block_sync : IsSync block
 block_sync = PlainLeafSent.the_sync u64-field.row Neighbours.the_row shared.ghosts ordered.ghosts equal.ghosts compared.ghosts set_shared.ghosts (search sendable) set_sync
 
--- what a call of a map asks of its blocks, its second parameter, and of its values
-pub block_sent : IsSend (param 1 block)
-block_sent = param_send 1 block block_send
+-- what a call of a map asks of its blocks, its last parameter, and of its values
+pub block_sent : IsSend (param 5 block)
+block_sent = param_send 5 block block_send
 
-pub set_sent : IsSend (param 4 Neighbours.the_row)
-set_sent = param_send 4 Neighbours.the_row set_send
+pub set_sent : IsSend (param 2 Neighbours.the_row)
+set_sent = param_send 2 Neighbours.the_row set_send
 
 pub ruleset crosses = (set_send, set_sync, sendable, std_crosses, tree_send, tree_sync, Block.the_send, Block.the_sync, PlainLeafSent.the_send, PlainLeafSent.the_sync)

@@ -6,7 +6,7 @@ ghost use Rattle.graph_snap.specs.Edges.{AreSets, IsGraph, edges_of, pairs_of, w
 use crate::edge::Edge;
 use crate::neighbours::Neighbours;
 use aug_monoid::{NoMemory, Pair64};
-use fork_join::{Cut, Gate};
+use fork_join::{Gate, On};
 use gathering::{Gives, set_of};
 use std::alloc::Global;
 use std::marker::Sync;
@@ -47,15 +47,13 @@ fn as_pairs(alloc: Global, keys: &[(Pair64, ())]) -> Result<Vec<(u64, u64)>, NoM
 
 // Edges in order, each once.
 fn in_order<R: Threads + Sync, G: Gate>(
-    rt: &R,
+    on: On<R, G>,
     alloc: Global,
-    gate: &G,
-    cut: Cut,
     list: &[Edge],
 ) -> Result<Vec<(u64, u64)>, NoMemory>
     ensures { IfOk result (λ edges. edges.items ≡ with_edges [] (pairs_of list.now)) }
 {
-    let keys = set_of(rt, alloc, gate, cut, &Keys, list)?;
+    let keys = set_of(on, alloc, &Keys, list)?;
     as_pairs(alloc, &keys)
 }
 
@@ -90,15 +88,13 @@ fn grouped(alloc: Global, edges: &[(u64, u64)]) -> Result<Vec<(u64, Neighbours)>
 
 /// The sets of out-neighbours that edges make, by vertex. For n edges it takes about n * log n work.
 pub(crate) fn sets_of<R: Threads + Sync, G: Gate>(
-    rt: &R,
+    on: On<R, G>,
     alloc: Global,
-    gate: &G,
-    cut: Cut,
     list: &[Edge],
 ) -> Result<Vec<(u64, Neighbours)>, NoMemory>
     ensures sets { IfOk result (λ sets. AreSets sets.items) }
     ensures edges { IfOk result (λ sets. edges_of sets.items ≡ with_edges [] (pairs_of list.now)) }
 {
-    let edges = in_order(rt, alloc, gate, cut, list)?;
+    let edges = in_order(on, alloc, list)?;
     grouped(alloc, &edges)
 }

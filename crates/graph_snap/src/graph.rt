@@ -13,7 +13,7 @@ use crate::search_alone::search_alone;
 use crate::vertices::{Vertices, degree_at, with_sets, with_sets_into, without_sets};
 use aug_map::PlainMap;
 use aug_monoid::{NoMemory, Share};
-use fork_join::{Cut, Gate};
+use fork_join::{Cut, Gate, On};
 use std::alloc::Global;
 use std::marker::{Model, Sync};
 use std::mem;
@@ -118,9 +118,10 @@ impl Graph {
     ) -> Result<Graph, NoMemory>
         ensures { IfOk result (λ graph. graph ≡ with_edges self.now (pairs_of list.now)) }
     {
-        let changed = sets_of(rt, alloc, gate, cut, list)?;
+        let on = On { rt, gate, cut };
+        let changed = sets_of(on, alloc, list)?;
         let batch = Vertices::build(rt, alloc, gate, cut, &changed)?;
-        let vertices = with_sets(rt, alloc, gate, cut, &self.vertices, &batch)?;
+        let vertices = with_sets(on, alloc, &self.vertices, &batch)?;
         let edges = edges_in(&vertices)?;
         Ok(Graph { vertices, edges })
     }
@@ -138,11 +139,12 @@ impl Graph {
     ) -> Result<Graph, NoMemory>
         ensures { IfOk result (λ graph. graph ≡ with_edges self (pairs_of list.now)) }
     {
-        let changed = sets_of(rt, alloc, gate, cut, list)?;
+        let on = On { rt, gate, cut };
+        let changed = sets_of(on, alloc, list)?;
         let mut graph = self;
         graph.edges = 0;
         let vertices = mem::replace(&mut graph.vertices, PlainMap::empty());
-        let vertices = with_sets_into(rt, alloc, gate, cut, vertices, &changed)?;
+        let vertices = with_sets_into(on, alloc, vertices, &changed)?;
         let edges = edges_in(&vertices)?;
         Ok(Graph { vertices, edges })
     }
@@ -158,9 +160,10 @@ impl Graph {
     ) -> Result<Graph, NoMemory>
         ensures { IfOk result (λ graph. graph ≡ without_edges self.now (pairs_of list.now)) }
     {
-        let changed = sets_of(rt, alloc, gate, cut, list)?;
+        let on = On { rt, gate, cut };
+        let changed = sets_of(on, alloc, list)?;
         let batch = Vertices::build(rt, alloc, gate, cut, &changed)?;
-        let vertices = without_sets(rt, alloc, gate, cut, &self.vertices, &batch)?;
+        let vertices = without_sets(on, alloc, &self.vertices, &batch)?;
         let edges = edges_in(&vertices)?;
         Ok(Graph { vertices, edges })
     }
@@ -179,7 +182,7 @@ impl Graph {
         ensures value { IfOk result (λ found. found.items ≡ reach self.now from) }
         ensures least { IfOk result (λ found. HasDistances self.now from found.items) }
     {
-        search(rt, alloc, gate, cut, &self.vertices, from)
+        search(On { rt, gate, cut }, alloc, &self.vertices, from)
     }
 
     /// What `bfs` answers, on one thread. O(m * log(n * m)) for m edges from what is reached, and n vertices.

@@ -1,11 +1,12 @@
 //! Sets of out-neighbours.
-ghost use Rattle.std.specs.Prelude.{◌≡◌, ◌<◌, [], length, IfOk, IfSome};
+ghost use Rattle.std.specs.Prelude.{◌≡◌, [], length, IfOk, IfSome};
 ghost use Rattle.std.specs.Ordering.{nat_cmp};
 ghost use Rattle.map_model.specs.Entries.{IsIncreasing};
 ghost use Rattle.map_model.specs.Operations.{build};
 ghost use Rattle.map_model.specs.SetOperations.{difference};
 ghost use Rattle.graph_snap.specs.Batches.{ends, has_elements};
 ghost use Rattle.graph_snap.specs.Merging.{IsOnlyElement, merged, with_element};
+ghost use Rattle.aug_monoid.specs.Fresh.{IsFresh};
 
 use aug_map::CodedMap;
 use aug_monoid::{First, NoMemory, Nothing, Resolve, Share, Steps, Test};
@@ -82,9 +83,7 @@ fn put_element<C: Ledger>(
     element: u64,
     blank: Blank,
 ) -> Result<CodedMap<Nothing<u64, ()>>, NoMemory>
-    requires name { blank.name ≡ C.name }
-    requires parts { blank.parts ≡ C.parts }
-    requires some { 0 < blank.parts }
+    requires { IsFresh C.name C.parts blank }
     ensures { IfOk result (λ more. more.entries ≡ with_element set.now.entries element) }
 {
     let mut steps = Steps::<C>::start(blank);

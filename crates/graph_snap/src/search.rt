@@ -12,7 +12,7 @@ use crate::vertices::{Vertices, set_at};
 use aug_map::CodedMap;
 use aug_monoid::{First, NoMemory, Nothing};
 use entry_lists::difference_of;
-use fork_join::{Cut, Gate};
+use fork_join::{Gate, On};
 use gathering::{Gives, set_of};
 use std::alloc::Global;
 use std::marker::Sync;
@@ -60,17 +60,15 @@ pub(crate) fn pairs_at(
 
 // The vertices that an edge leads to from a front, with their distance.
 fn near_pairs<R: Threads + Sync, G: Gate>(
-    rt: &R,
+    on: On<R, G>,
     alloc: Global,
-    gate: &G,
-    cut: Cut,
     vertices: &Vertices,
     front: &[(u64, u64)],
     distance: u64,
 ) -> Result<Vec<(u64, u64)>, NoMemory>
     ensures { IfOk result (λ pairs. pairs.items ≡ at_distance distance (neighbours_of vertices.now.entries front.now)) }
 {
-    let near = set_of(rt, alloc, gate, cut, &Near { vertices }, front)?;
+    let near = set_of(on, alloc, &Near { vertices }, front)?;
     pairs_at(alloc, &near, distance)
 }
 
@@ -95,27 +93,23 @@ pub(crate) fn not_in_list(
 
 // The vertices of a list in order that were not found before. The time goes by how long the list is.
 fn not_in_map<R: Threads + Sync, G: Gate>(
-    rt: &R,
+    on: On<R, G>,
     alloc: Global,
-    gate: &G,
-    cut: Cut,
     near: &[(u64, u64)],
     found: &Distances,
 ) -> Result<Vec<(u64, u64)>, NoMemory>
     requires { IsIncreasing nat_cmp near.now }
     ensures { IfOk result (λ left. left.items ≡ difference nat_cmp near.now found.now.entries) }
 {
-    let listed: Distances = CodedMap::build(rt, alloc, gate, cut, near)?;
-    let left = listed.difference(rt, alloc, gate, cut, found)?;
+    let listed: Distances = CodedMap::build(on.rt, alloc, on.gate, on.cut, near)?;
+    let left = listed.difference(on.rt, alloc, on.gate, on.cut, found)?;
     left.to_vec(alloc)
 }
 
 // The vertices of a list in order that were not found before.
 fn not_found<R: Threads + Sync, G: Gate>(
-    rt: &R,
+    on: On<R, G>,
     alloc: Global,
-    gate: &G,
-    cut: Cut,
     near: &[(u64, u64)],
     found: &Distances,
 ) -> Result<Vec<(u64, u64)>, NoMemory>
@@ -123,7 +117,7 @@ fn not_found<R: Threads + Sync, G: Gate>(
     ensures { IfOk result (λ left. left.items ≡ difference nat_cmp near.now found.now.entries) }
 {
     if is_narrow(near, found) {
-        not_in_map(rt, alloc, gate, cut, near, found)
+        not_in_map(on, alloc, near, found)
     } else {
         not_in_list(alloc, near, found)
     }
@@ -131,10 +125,8 @@ fn not_found<R: Threads + Sync, G: Gate>(
 
 // The vertices that an edge leads to from a front and that were not found before.
 fn next_front<R: Threads + Sync, G: Gate>(
-    rt: &R,
+    on: On<R, G>,
     alloc: Global,
-    gate: &G,
-    cut: Cut,
     vertices: &Vertices,
     front: &[(u64, u64)],
     found: &Distances,
@@ -142,8 +134,8 @@ fn next_front<R: Threads + Sync, G: Gate>(
 ) -> Result<Vec<(u64, u64)>, NoMemory>
     ensures { IfOk result (λ next. next.items ≡ next_front vertices.now.entries front.now found.now.entries distance) }
 {
-    let near = near_pairs(rt, alloc, gate, cut, vertices, front, distance)?;
-    not_found(rt, alloc, gate, cut, &near, found)
+    let near = near_pairs(on, alloc, vertices, front, distance)?;
+    not_found(on, alloc, &near, found)
 }
 
 /// The front at distance 0.
@@ -182,10 +174,8 @@ pub(crate) fn further(distance: u64) -> Result<u64, NoMemory>
 
 /// What walks from a vertex reach, with the least numbers of edges.
 pub(crate) fn search<R: Threads + Sync, G: Gate>(
-    rt: &R,
+    on: On<R, G>,
     alloc: Global,
-    gate: &G,
-    cut: Cut,
     vertices: &Vertices,
     from: u64,
 ) -> Result<Vec<Reached>, NoMemory>
@@ -197,8 +187,8 @@ pub(crate) fn search<R: Threads + Sync, G: Gate>(
     let mut distance: u64 = 0;
     'levels: while front.len() > 0 {
         distance = further(distance)?;
-        front = next_front(rt, alloc, gate, cut, vertices, &front, &found, distance)?;
-        found = found.union_into(rt, alloc, gate, cut, &front, &First)?;
+        front = next_front(on, alloc, vertices, &front, &found, distance)?;
+        found = found.union_into(on.rt, alloc, on.gate, on.cut, &front, &First)?;
     }
     listed(alloc, &found)
 }

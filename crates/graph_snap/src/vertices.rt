@@ -1,13 +1,14 @@
 //! The map from vertices to their sets of out-neighbours.
-ghost use Rattle.std.specs.Prelude.{◌≡◌, ◌<◌, length, IfOk};
+ghost use Rattle.std.specs.Prelude.{◌≡◌, length, IfOk};
 ghost use Rattle.graph_snap.specs.Batches.{IsLessened, IsUnited};
 ghost use Rattle.graph_snap.specs.Edges.{AreSets, edges_of, set_at};
+ghost use Rattle.aug_monoid.specs.Fresh.{IsFresh};
 
 use crate::degrees::Degrees;
 use crate::neighbours::{HasElements, Merge, Minus, Neighbours};
 use aug_map::PlainMap;
 use aug_monoid::{First, NoMemory, Steps};
-use fork_join::{Cut, Gate};
+use fork_join::{Gate, On};
 use std::alloc::Global;
 use std::marker::{Brand, Sync};
 use std::sync::ledger::{Blank, Ledger};
@@ -23,9 +24,7 @@ fn set_counted<C: Ledger>(
     vertex: u64,
     blank: Blank,
 ) -> Result<Neighbours, NoMemory>
-    requires name { blank.name ≡ C.name }
-    requires parts { blank.parts ≡ C.parts }
-    requires some { 0 < blank.parts }
+    requires { IsFresh C.name C.parts blank }
     ensures { IfOk result (λ set. set ≡ set_at vertices.now.entries vertex) }
 {
     let mut steps = Steps::<C>::start(blank);
@@ -56,10 +55,8 @@ pub(crate) fn degree_at(alloc: Global, vertices: &Vertices, vertex: u64) -> Resu
 
 /// The map with the edges of another one too.
 pub(crate) fn with_sets<R: Threads + Sync, G: Gate>(
-    rt: &R,
+    on: On<R, G>,
     alloc: Global,
-    gate: &G,
-    cut: Cut,
     vertices: &Vertices,
     batch: &Vertices,
 ) -> Result<Vertices, NoMemory>
@@ -68,15 +65,13 @@ pub(crate) fn with_sets<R: Threads + Sync, G: Gate>(
     ensures sets { IfOk result (λ map. AreSets map.entries) }
     ensures edges { IfOk result (λ map. IsUnited vertices.now.entries batch.now.entries map.entries) }
 {
-    vertices.union(rt, alloc, gate, cut, batch, &Merge)
+    vertices.union(on.rt, alloc, on.gate, on.cut, batch, &Merge)
 }
 
 /// The map, which is given up, with the edges of a list of sets too.
 pub(crate) fn with_sets_into<R: Threads + Sync, G: Gate>(
-    rt: &R,
+    on: On<R, G>,
     alloc: Global,
-    gate: &G,
-    cut: Cut,
     vertices: Vertices,
     batch: &[(u64, Neighbours)],
 ) -> Result<Vertices, NoMemory>
@@ -85,15 +80,13 @@ pub(crate) fn with_sets_into<R: Threads + Sync, G: Gate>(
     ensures sets { IfOk result (λ map. AreSets map.entries) }
     ensures edges { IfOk result (λ map. IsUnited vertices.entries batch.now map.entries) }
 {
-    vertices.union_into(rt, alloc, gate, cut, batch, &Merge)
+    vertices.union_into(on.rt, alloc, on.gate, on.cut, batch, &Merge)
 }
 
 /// The map without the edges of another one. A vertex that has no edge left is no key.
 pub(crate) fn without_sets<R: Threads + Sync, G: Gate>(
-    rt: &R,
+    on: On<R, G>,
     alloc: Global,
-    gate: &G,
-    cut: Cut,
     vertices: &Vertices,
     batch: &Vertices,
 ) -> Result<Vertices, NoMemory>
@@ -102,8 +95,8 @@ pub(crate) fn without_sets<R: Threads + Sync, G: Gate>(
     ensures sets { IfOk result (λ map. AreSets map.entries) }
     ensures edges { IfOk result (λ map. IsLessened vertices.now.entries batch.now.entries map.entries) }
 {
-    let changed = vertices.intersect(rt, alloc, gate, cut, batch, &Minus)?;
-    let left = changed.filter(rt, alloc, gate, cut, &HasElements)?;
-    let others = vertices.difference(rt, alloc, gate, cut, batch)?;
-    others.union(rt, alloc, gate, cut, &left, &First)
+    let changed = vertices.intersect(on.rt, alloc, on.gate, on.cut, batch, &Minus)?;
+    let left = changed.filter(on.rt, alloc, on.gate, on.cut, &HasElements)?;
+    let others = vertices.difference(on.rt, alloc, on.gate, on.cut, batch)?;
+    others.union(on.rt, alloc, on.gate, on.cut, &left, &First)
 }

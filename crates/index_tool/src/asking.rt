@@ -9,7 +9,7 @@ ghost use Rattle.script.specs.Lines.{counted, line_of};
 
 use crate::terms::{term_of, terms_of};
 use aug_monoid::NoMemory;
-use fork_join::{Cut, Gate};
+use fork_join::{Gate, On};
 use inverted_index::{Hit, Index};
 use script::{Items, Numbers, counted_line};
 use std::alloc::Global;
@@ -35,10 +35,8 @@ pub(crate) fn docs_line(alloc: Global, text: &mut Vec<u8>, hits: &[Hit]) -> Resu
 }
 
 pub(crate) fn all_of<R: Threads + Sync, G: Gate>(
-    rt: &R,
+    on: On<R, G>,
     alloc: Global,
-    gate: &G,
-    cut: Cut,
     index: &Index,
     named: &[Items<u8>],
 ) -> Result<Vec<Hit>, NoMemory>
@@ -46,14 +44,12 @@ pub(crate) fn all_of<R: Threads + Sync, G: Gate>(
     ensures { IfOk result (λ hits. hits.items ≡ hits_of (all_of index.now (map small named.now))) }
 {
     let terms = terms_of(alloc, named)?;
-    index.all_of(rt, alloc, gate, cut, &terms)
+    index.all_of(on.rt, alloc, on.gate, on.cut, &terms)
 }
 
 pub(crate) fn any_of<R: Threads + Sync, G: Gate>(
-    rt: &R,
+    on: On<R, G>,
     alloc: Global,
-    gate: &G,
-    cut: Cut,
     index: &Index,
     named: &[Items<u8>],
 ) -> Result<Vec<Hit>, NoMemory>
@@ -61,14 +57,12 @@ pub(crate) fn any_of<R: Threads + Sync, G: Gate>(
     ensures { IfOk result (λ hits. hits.items ≡ hits_of (any_of index.now (map small named.now))) }
 {
     let terms = terms_of(alloc, named)?;
-    index.any_of(rt, alloc, gate, cut, &terms)
+    index.any_of(on.rt, alloc, on.gate, on.cut, &terms)
 }
 
 pub(crate) fn without<R: Threads + Sync, G: Gate>(
-    rt: &R,
+    on: On<R, G>,
     alloc: Global,
-    gate: &G,
-    cut: Cut,
     index: &Index,
     terms: &[Items<u8>],
 ) -> Result<Vec<Hit>, NoMemory>
@@ -77,7 +71,7 @@ pub(crate) fn without<R: Threads + Sync, G: Gate>(
     ensures { IfOk result (λ hits. hits.items ≡ hits_of (without index.now (named terms.now 0) (named terms.now 1))) }
 {
     let terms = terms_of(alloc, terms)?;
-    index.without(rt, alloc, gate, cut, &terms[0], &terms[1])
+    index.without(on.rt, alloc, on.gate, on.cut, &terms[0], &terms[1])
 }
 
 pub(crate) fn top(alloc: Global, index: &Index, k: u64, named: &[u8]) -> Result<Vec<Hit>, NoMemory>

@@ -5,7 +5,7 @@ ghost use Rattle.index_tool.specs.Effects.{doc_lines, outcome_line};
 ghost use Rattle.inverted_index.specs.Added.{with_docs};
 
 use aug_monoid::NoMemory;
-use fork_join::{Cut, Gate};
+use fork_join::{Gate, On};
 use inverted_index::{Doc, Index, Outcome};
 use script::line;
 use std::alloc::Global;
@@ -35,10 +35,8 @@ fn outcome_lines(text: &mut Vec<u8>, outcomes: &[Outcome]) -> Result<(), NoMemor
 
 /// Adds documents that wait, in one batch, and appends the replies to their commands.
 pub(crate) fn settle<R: Threads + Sync, G: Gate>(
-    rt: &R,
+    on: On<R, G>,
     alloc: Global,
-    gate: &G,
-    cut: Cut,
     index: Index,
     waiting: &[Doc<'_>],
     text: &mut Vec<u8>,
@@ -49,7 +47,7 @@ pub(crate) fn settle<R: Threads + Sync, G: Gate>(
     if waiting.is_empty() {
         return Ok(index);
     }
-    let added = index.add_docs(rt, alloc, gate, cut, waiting)?;
+    let added = index.add_docs(on.rt, alloc, on.gate, on.cut, waiting)?;
     outcome_lines(text, &added.outcomes)?;
     Ok(added.index)
 }

@@ -10,7 +10,7 @@ use crate::IndexCommand;
 use crate::asking::{all_of, any_of, docs_line, top, without};
 use crate::batch::settle;
 use aug_monoid::NoMemory;
-use fork_join::{Cut, Gate};
+use fork_join::{Gate, On};
 use inverted_index::{Doc, Index};
 use std::alloc::Global;
 use std::marker::Sync;
@@ -18,10 +18,8 @@ use std::thread::Threads;
 
 // Appends the reply to a question.
 fn answer<R: Threads + Sync, G: Gate>(
-    rt: &R,
+    on: On<R, G>,
     alloc: Global,
-    gate: &G,
-    cut: Cut,
     index: &Index,
     command: &IndexCommand,
     text: &mut Vec<u8>,
@@ -32,15 +30,9 @@ fn answer<R: Threads + Sync, G: Gate>(
 {
     let hits = match command {
         IndexCommand::Doc { .. } => unreachable!(),
-        IndexCommand::And { place: _, terms } => {
-            all_of(rt, alloc, gate, cut, index, terms.items())?
-        }
-        IndexCommand::Or { place: _, terms } => {
-            any_of(rt, alloc, gate, cut, index, terms.items())?
-        }
-        IndexCommand::Without { place: _, terms } => {
-            without(rt, alloc, gate, cut, index, terms.items())?
-        }
+        IndexCommand::And { place: _, terms } => { all_of(on, alloc, index, terms.items())? }
+        IndexCommand::Or { place: _, terms } => { any_of(on, alloc, index, terms.items())? }
+        IndexCommand::Without { place: _, terms } => { without(on, alloc, index, terms.items())? }
         IndexCommand::Top { place: _, i, term } => top(alloc, index, *i, term.items())?,
     };
     docs_line(alloc, text, &hits)
@@ -50,10 +42,8 @@ fn answer<R: Threads + Sync, G: Gate>(
 // answered once none waits.
 #[tactic(auto, using(crate::proofs::Waiting::asks_keeps))]
 fn run_command<'a, R: Threads + Sync, G: Gate>(
-    rt: &R,
+    on: On<R, G>,
     alloc: Global,
-    gate: &G,
-    cut: Cut,
     index: Index,
     waiting: &mut Vec<Doc<'a>>,
     command: &'a IndexCommand,
@@ -75,19 +65,17 @@ fn run_command<'a, R: Threads + Sync, G: Gate>(
         })?;
         return Ok(index);
     }
-    let index = settle(rt, alloc, gate, cut, index, waiting, text)?;
+    let index = settle(on, alloc, index, waiting, text)?;
     waiting.clear();
-    answer(rt, alloc, gate, cut, &index, command, text)?;
+    answer(on, alloc, &index, command, text)?;
     Ok(index)
 }
 
 /// The replies to the commands, run in order on an index of no documents, which depend neither on the runtime nor on the gate
 /// nor on the cut. Commands in a row that add documents are one batch, which forks where the cut allows it.
 pub fn run_index<R: Threads + Sync, G: Gate>(
-    rt: &R,
+    on: On<R, G>,
     alloc: Global,
-    gate: &G,
-    cut: Cut,
     commands: &[IndexCommand],
 ) -> Result<Vec<u8>, NoMemory>
     requires { AllByRecursion HasTerms commands.now }
@@ -97,18 +85,9 @@ pub fn run_index<R: Threads + Sync, G: Gate>(
     let mut waiting = Vec::new(alloc);
     let mut text = Vec::new(alloc);
     for command in commands {
-        index = run_command(
-            rt,
-            alloc,
-            gate,
-            cut,
-            index,
-            &mut waiting,
-            command,
-            &mut text,
-        )?;
+        index = run_command(on, alloc, index, &mut waiting, command, &mut text)?;
     }
     // The replies to the documents that still wait; the index itself is wanted no more.
-    let _index = settle(rt, alloc, gate, cut, index, &waiting, &mut text)?;
+    let _index = settle(on, alloc, index, &waiting, &mut text)?;
     Ok(text)
 }

@@ -1,5 +1,5 @@
 //! Which intervals have a number, or a number of a range, and which are there.
-ghost use Rattle.std.specs.Prelude.{◌≡◌, ◌<◌, ◌↔◌, [], Contains, IfOk, IsTrue, Some, None, is_some, take};
+ghost use Rattle.std.specs.Prelude.{◌≡◌, ◌↔◌, [], Contains, IfOk, IsTrue, Some, None, is_some, take};
 ghost use Rattle.std.specs.Map.{keys_of};
 ghost use Rattle.aug_monoid.specs.Exact.{pair64_cmp};
 ghost use Rattle.aug_monoid.specs.Greatest.{greater_of};
@@ -7,6 +7,7 @@ ghost use Rattle.map_model.specs.Entries.{lookup};
 ghost use Rattle.map_model.specs.Fold.{fold_of};
 ghost use Rattle.map_model.specs.Parts.{left_of};
 ghost use Rattle.interval_map.specs.Intervals.{interval, intervals_from, overlap, stab};
+ghost use Rattle.aug_monoid.specs.Fresh.{IsFresh};
 
 use crate::ends::EndsFrom;
 use crate::intervals::{IntervalMap, Intervals, interval};
@@ -17,9 +18,7 @@ use std::sync::ledger::{Blank, Ledger};
 
 // The greatest right end of the intervals that begin at most at `p`, with a counter of its own.
 fn greatest_right<C: Ledger>(alloc: Global, map: &IntervalMap, p: u64, blank: Blank) -> Option<u64>
-    requires name { blank.name ≡ C.name }
-    requires parts { blank.parts ≡ C.parts }
-    requires some { 0 < blank.parts }
+    requires { IsFresh C.name C.parts blank }
     ensures { result ≡ fold_of (λ key _. Some key.second) None greater_of (left_of pair64_cmp map.now.entries (interval p u64.MAX)) }
 {
     let mut steps = Steps::<C>::start(blank);
@@ -31,9 +30,7 @@ fn greatest_right<C: Ledger>(alloc: Global, map: &IntervalMap, p: u64, blank: Bl
 
 // Whether a map has a key, with a counter of its own.
 fn has_key<C: Ledger>(alloc: Global, map: &IntervalMap, key: &Pair64, blank: Blank) -> bool
-    requires name { blank.name ≡ C.name }
-    requires parts { blank.parts ≡ C.parts }
-    requires some { 0 < blank.parts }
+    requires { IsFresh C.name C.parts blank }
     ensures { result ≡ is_some (lookup pair64_cmp map.now.entries key.now) }
 {
     let mut steps = Steps::<C>::start(blank);

@@ -1,8 +1,9 @@
 //! Sets with one interval more or less.
-ghost use Rattle.std.specs.Prelude.{◌≡◌, ◌<◌, ◌≤◌, IfOk, OnErr, OnOk};
+ghost use Rattle.std.specs.Prelude.{◌≡◌, ◌≤◌, IfOk, OnErr, OnOk};
 ghost use Rattle.aug_monoid.specs.Exact.{pair64_cmp};
 ghost use Rattle.map_model.specs.Entries.{drop_key, set};
 ghost use Rattle.interval_map.specs.Intervals.{interval, with_interval, without_interval};
+ghost use Rattle.aug_monoid.specs.Fresh.{IsFresh};
 
 use crate::intervals::{IntervalMap, Intervals, interval};
 use aug_monoid::{NoMemory, Pair64, Share, Steps};
@@ -17,9 +18,7 @@ fn put<C: Ledger>(
     key: Pair64,
     blank: Blank,
 ) -> Result<(), NoMemory>
-    requires name { blank.name ≡ C.name }
-    requires parts { blank.parts ≡ C.parts }
-    requires some { 0 < blank.parts }
+    requires { IsFresh C.name C.parts blank }
     ensures entries { OnOk result (map.new.entries ≡ set pair64_cmp map.old.entries key tt) }
     ensures kept { OnErr result (map.new ≡ map.old) }
 {
@@ -34,9 +33,7 @@ fn del<C: Ledger>(
     key: &Pair64,
     blank: Blank,
 ) -> Result<(), NoMemory>
-    requires name { blank.name ≡ C.name }
-    requires parts { blank.parts ≡ C.parts }
-    requires some { 0 < blank.parts }
+    requires { IsFresh C.name C.parts blank }
     ensures entries { OnOk result (map.new.entries ≡ drop_key pair64_cmp map.old.entries key.now) }
     ensures kept { OnErr result (map.new ≡ map.old) }
 {

@@ -4,8 +4,8 @@ use denote.Param.{param}
 use denote.Param.Send.{IsSend, IsSync, param_send, sendable}
 use denote.RattleType.{RattleType}
 use Rattle.std.proofs.Crossing.{crosses as std_crosses}
-use Rattle.tree_base.proofs.tree.TreeOver.TheLaws.TheKnot.{both_send-TreeOver as tree_send, both_sync-TreeOver as tree_sync}
-use Rattle.tree_base.proofs.tree.Block.TheSendSync as Block
+use Rattle.tree_shape.proofs.tree.Tree.TheLaws.TheKnot.{both_send-Tree as tree_send, both_sync-Tree as tree_sync}
+use Rattle.tree_shape.proofs.tree.Block.TheSendSync as Block
 use Rattle.leaf_blocks.proofs.plain_leaf.PlainLeaf.TheSendSync as PlainLeafSent
 use Rattle.leaf_blocks.specs.contracts.plain_leaf.PlainLeaf as PlainLeaf
 use Rattle.inverted_index.specs.contracts.postings.Postings as Postings
@@ -38,11 +38,11 @@ block_send = PlainLeafSent.the_send Term.the_row Postings.the_row term_shared.gh
 pub block_sync : IsSync block
 block_sync = PlainLeafSent.the_sync Term.the_row Postings.the_row term_shared.ghosts ordered.ghosts equal.ghosts compared.ghosts postings_shared.ghosts term_sync postings_sync
 
--- what a call of a map asks of its blocks, its second parameter, and of its values
-pub block_sent : IsSend (param 1 block)
-block_sent = param_send 1 block block_send
+-- what a call of a map asks of its blocks, its last parameter, and of its values
+pub block_sent : IsSend (param 5 block)
+block_sent = param_send 5 block block_send
 
-pub postings_sent : IsSend (param 4 Postings.the_row)
-postings_sent = param_send 4 Postings.the_row postings_send
+pub postings_sent : IsSend (param 2 Postings.the_row)
+postings_sent = param_send 2 Postings.the_row postings_send
 
 pub ruleset crosses = (block_send, block_sync, term_send, term_sync, postings_send, postings_sync, sendable, std_crosses, tree_send, tree_sync, Block.the_send, Block.the_sync, PlainLeafSent.the_send, PlainLeafSent.the_sync)

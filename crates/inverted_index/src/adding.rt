@@ -1,10 +1,11 @@
 //! Documents that are added.
-ghost use Rattle.std.specs.Prelude.{◌≡◌, ◌<◌, ℕ, IfOk, List};
+ghost use Rattle.std.specs.Prelude.{◌≡◌, ℕ, IfOk, List};
 ghost use Rattle.map_model.specs.SetOperations.{union};
 ghost use Rattle.inverted_index.specs.Added.{IsAdded, outcomes_of, with_docs};
 ghost use Rattle.inverted_index.specs.Batches.{IsGathered, all_knowing, marked};
 ghost use Rattle.inverted_index.specs.Merging.{merged};
 ghost use Rattle.inverted_index.specs.Terms.{bytes_cmp};
+ghost use Rattle.aug_monoid.specs.Fresh.{IsFresh};
 
 use crate::batch::{Gathered, gathered_all};
 use crate::doc::{AddedDocs, Doc, Outcome};
@@ -12,7 +13,7 @@ use crate::index::{Index, Lists};
 use crate::marking::{Marked, mark_new};
 use crate::postings::{Merge, Weights};
 use aug_monoid::{NoMemory, Share};
-use fork_join::{Cut, Gate};
+use fork_join::{Cut, Gate, On};
 use std::alloc::Global;
 use std::marker::{Brand, Sync};
 use std::sync::ledger::{Blank, Ledger};
@@ -32,9 +33,7 @@ fn known_after<'a, C: Ledger>(
     docs: &[Doc<'a>],
     blank: Blank,
 ) -> Result<(Weights, Vec<Marked<'a>>), NoMemory>
-    requires name { blank.name ≡ C.name }
-    requires parts { blank.parts ≡ C.parts }
-    requires some { 0 < blank.parts }
+    requires { IsFresh C.name C.parts blank }
     ensures after { IfOk result (λ r. r.0.entries ≡ all_knowing known.now.entries docs.now) }
     ensures marks { IfOk result (λ r. r.1.items ≡ marked known.now.entries docs.now) }
 {
@@ -45,17 +44,15 @@ fn known_after<'a, C: Ledger>(
 
 // Lists united with the postings of a batch, and what becomes of its documents.
 fn lists_after<R: Threads + Sync, G: Gate>(
-    rt: &R,
+    on: On<R, G>,
     alloc: Global,
-    gate: &G,
-    cut: Cut,
     lists: &Lists,
     docs: &[Marked<'_>],
 ) -> Result<Gathered, NoMemory>
     ensures lists { IfOk result (λ out. (batch : List (List ℕ × List (ℕ × ℕ))) × IsGathered docs.now batch out.outcomes.items × (out.lists.entries ≡ union bytes_cmp merged lists.now.entries batch)) }
 {
-    let batch = gathered_all(rt, alloc, gate, cut, docs)?;
-    let lists = lists.union(rt, alloc, gate, cut, &batch.lists, &Merge)?;
+    let batch = gathered_all(on, alloc, docs)?;
+    let lists = lists.union(on.rt, alloc, on.gate, on.cut, &batch.lists, &Merge)?;
     Ok(Gathered {
         lists,
         outcomes: batch.outcomes,
@@ -78,7 +75,12 @@ impl Index {
         ensures outcomes { IfOk result (λ added. added.outcomes.items ≡ outcomes_of self.now docs.now) }
     {
         let (known, marks) = known_after::<Brand>(alloc, &self.known, docs, Blank::new(1))?;
-        let Gathered { lists, outcomes } = lists_after(rt, alloc, gate, cut, &self.lists, &marks)?;
+        let Gathered { lists, outcomes } = lists_after(
+            On { rt, gate, cut },
+            alloc,
+            &self.lists,
+            &marks,
+        )?;
         Ok(AddedDocs {
             index: Index { known, lists },
             outcomes,

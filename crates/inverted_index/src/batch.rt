@@ -14,7 +14,7 @@ use crate::postings::Merge;
 use crate::table::{Table, lists_of, push_doc};
 use crate::tally::weights_of;
 use aug_monoid::NoMemory;
-use fork_join::{Cut, Divide, Gate, Opened, divide};
+use fork_join::{Cut, Divide, Gate, On, Opened, divide};
 use std::alloc::Global;
 use std::collections::BTreeMap;
 use std::marker::Sync;
@@ -118,14 +118,12 @@ fn most_at_once(cut: Cut, docs: usize) -> usize {
 /// The postings of those documents that are new, gathered where the cut allows it by halves, in as many parts as there are workers
 /// or up to twice as many.
 pub(crate) fn gathered_all<R: Threads + Sync, G: Gate>(
-    rt: &R,
+    on: On<R, G>,
     alloc: Global,
-    gate: &G,
-    cut: Cut,
     docs: &[Marked<'_>],
 ) -> Result<Gathered, NoMemory>
     ensures { IfOk result (λ out. IsGathered docs.now out.lists.entries out.outcomes.items) }
 {
-    let most = most_at_once(cut, docs.len());
-    divide(rt, alloc, gate, cut, &Gathering { most }, docs)
+    let most = most_at_once(on.cut, docs.len());
+    divide(on, alloc, &Gathering { most }, docs)
 }

@@ -1,17 +1,18 @@
 //! Postings that are found.
-ghost use Rattle.std.specs.Prelude.{◌≡◌, ◌<◌, ℕ, List, IfOk, IsPermutation, length, map, []};
+ghost use Rattle.std.specs.Prelude.{◌≡◌, ℕ, List, IfOk, IsPermutation, length, map, []};
 ghost use Rattle.std.specs.List.Sorted.{IsNonDecreasingBy};
 ghost use Rattle.std.specs.Ordering.{nat_cmp};
 ghost use Rattle.map_model.specs.Entries.{IsIncreasing};
 ghost use Rattle.inverted_index.specs.Merging.{common, common_of, union_all, postings_at};
 ghost use Rattle.inverted_index.specs.Queries.{hits_of};
+ghost use Rattle.aug_monoid.specs.Fresh.{IsFresh};
 
 use crate::hit::Hit;
 use crate::index::Lists;
 use crate::postings::{Postings, Weights};
 use crate::term::Term;
 use aug_monoid::{NoMemory, SatSum, Share, Steps};
-use fork_join::{Cut, Gate};
+use fork_join::{Gate, On};
 use std::alloc::Global;
 use std::marker::Sync;
 use std::sync::ledger::{Blank, Ledger};
@@ -39,9 +40,7 @@ pub(crate) fn find_lists<C: Ledger>(
     terms: &[Term],
     blank: Blank,
 ) -> Result<Vec<Postings>, NoMemory>
-    requires name { blank.name ≡ C.name }
-    requires parts { blank.parts ≡ C.parts }
-    requires some { 0 < blank.parts }
+    requires { IsFresh C.name C.parts blank }
     ensures { IfOk result (λ found. found.items ≡ map (postings_at lists.now.entries) terms.now) }
 {
     let mut steps = Steps::<C>::start(blank);
@@ -68,10 +67,8 @@ pub(crate) fn by_size(mut lists: Vec<Postings>) -> Result<Vec<Postings>, NoMemor
 // The documents of a map that all lists have, with the sums of their weights there and in the map.
 #[tactic(auto, using(crate::proofs::Steps::common_more))]
 fn common<R: Threads + Sync, G: Gate>(
-    rt: &R,
+    on: On<R, G>,
     alloc: Global,
-    gate: &G,
-    cut: Cut,
     start: &Weights,
     lists: &[Postings],
 ) -> Result<Weights, NoMemory>
@@ -80,7 +77,7 @@ fn common<R: Threads + Sync, G: Gate>(
 {
     let mut found = start.share(alloc)?;
     for list in lists {
-        found = found.intersect(rt, alloc, gate, cut, list.map(), &SatSum)?;
+        found = found.intersect(on.rt, alloc, on.gate, on.cut, list.map(), &SatSum)?;
     }
     let _size = found.size(); // for the proof alone: keys rise
     Ok(found)
@@ -88,10 +85,8 @@ fn common<R: Threads + Sync, G: Gate>(
 
 /// The documents that all lists have, with the sums of their weights; the known documents where there are no lists.
 pub(crate) fn common_of<R: Threads + Sync, G: Gate>(
-    rt: &R,
+    on: On<R, G>,
     alloc: Global,
-    gate: &G,
-    cut: Cut,
     known: &Weights,
     lists: &[Postings],
 ) -> Result<Weights, NoMemory>
@@ -99,18 +94,16 @@ pub(crate) fn common_of<R: Threads + Sync, G: Gate>(
     ensures rises { IfOk result (λ found. IsIncreasing nat_cmp found.entries) }
 {
     match lists {
-        [] => common(rt, alloc, gate, cut, known, lists),
-        [first, rest @ ..] => common(rt, alloc, gate, cut, first.map(), rest),
+        [] => common(on, alloc, known, lists),
+        [first, rest @ ..] => common(on, alloc, first.map(), rest),
     }
 }
 
 /// The documents that one of the lists has, with the sums of their weights.
 #[tactic(auto, using(crate::proofs::Steps::union_all_more))]
 pub(crate) fn union_all<R: Threads + Sync, G: Gate>(
-    rt: &R,
+    on: On<R, G>,
     alloc: Global,
-    gate: &G,
-    cut: Cut,
     lists: &[Postings],
 ) -> Result<Weights, NoMemory>
     ensures entries { IfOk result (λ found. found.entries ≡ union_all [] lists.now) }
@@ -118,7 +111,7 @@ pub(crate) fn union_all<R: Threads + Sync, G: Gate>(
 {
     let mut found = Weights::empty();
     for list in lists {
-        found = found.union(rt, alloc, gate, cut, list.map(), &SatSum)?;
+        found = found.union(on.rt, alloc, on.gate, on.cut, list.map(), &SatSum)?;
     }
     let _size = found.size(); // for the proof alone: keys rise
     Ok(found)

@@ -1,8 +1,9 @@
 //! Which documents of a batch are new.
-ghost use Rattle.std.specs.Prelude.{◌≡◌, ◌<◌, not, is_some, IfOk, OnOk};
+ghost use Rattle.std.specs.Prelude.{◌≡◌, not, is_some, IfOk, OnOk};
 ghost use Rattle.std.specs.Ordering.{nat_cmp};
 ghost use Rattle.map_model.specs.Entries.{lookup};
 ghost use Rattle.inverted_index.specs.Batches.{all_knowing, knowing, marked};
+ghost use Rattle.aug_monoid.specs.Fresh.{IsFresh};
 
 use crate::doc::Doc;
 use crate::postings::Weights;
@@ -42,9 +43,7 @@ pub(crate) fn mark_new<'a, C: Ledger>(
     docs: &[Doc<'a>],
     blank: Blank,
 ) -> Result<Vec<Marked<'a>>, NoMemory>
-    requires name { blank.name ≡ C.name }
-    requires parts { blank.parts ≡ C.parts }
-    requires some { 0 < blank.parts }
+    requires { IsFresh C.name C.parts blank }
     ensures marks { IfOk result (λ list. list.items ≡ marked known.old.entries docs.now) }
     ensures after { OnOk result (known.new.entries ≡ all_knowing known.old.entries docs.now) }
 {

@@ -1,10 +1,11 @@
 //! Questions to an index.
-ghost use Rattle.std.specs.Prelude.{◌≡◌, ◌<◌, IfOk};
+ghost use Rattle.std.specs.Prelude.{◌≡◌, IfOk};
 ghost use Rattle.std.specs.Ordering.{nat_cmp};
 ghost use Rattle.map_model.specs.Entries.{IsIncreasing};
 ghost use Rattle.map_model.specs.SetOperations.{difference};
 ghost use Rattle.inverted_index.specs.Merging.{postings_at};
 ghost use Rattle.inverted_index.specs.Queries.{AreTop, all_of, any_of, having, hits_of, top, without};
+ghost use Rattle.aug_monoid.specs.Fresh.{IsFresh};
 
 use crate::finding::{by_size, common_of, find_list, find_lists, hits_of, union_all};
 use crate::hit::Hit;
@@ -13,7 +14,7 @@ use crate::postings::{Postings, Weights};
 use crate::ranking::top;
 use crate::term::Term;
 use aug_monoid::{NoMemory, Steps};
-use fork_join::{Cut, Gate};
+use fork_join::{Cut, Gate, On};
 use std::alloc::Global;
 use std::marker::{Brand, Sync};
 use std::sync::ledger::{Blank, Ledger};
@@ -26,9 +27,7 @@ fn find_one<C: Ledger>(
     term: &Term,
     blank: Blank,
 ) -> Result<Postings, NoMemory>
-    requires name { blank.name ≡ C.name }
-    requires parts { blank.parts ≡ C.parts }
-    requires some { 0 < blank.parts }
+    requires { IsFresh C.name C.parts blank }
     ensures { IfOk result (λ postings. postings ≡ postings_at lists.now.entries term.now) }
 {
     let mut steps = Steps::<C>::start(blank);
@@ -51,7 +50,7 @@ impl Index {
     {
         let lists = find_lists::<Brand>(alloc, &self.lists, terms, Blank::new(1))?;
         let sorted = by_size(lists)?;
-        let found = common_of(rt, alloc, gate, cut, &self.known, &sorted)?;
+        let found = common_of(On { rt, gate, cut }, alloc, &self.known, &sorted)?;
         hits_of(alloc, &found)
     }
 
@@ -68,7 +67,7 @@ impl Index {
         ensures { IfOk result (λ hits. hits.items ≡ hits_of (any_of self.now terms.now)) }
     {
         let lists = find_lists::<Brand>(alloc, &self.lists, terms, Blank::new(1))?;
-        let found = union_all(rt, alloc, gate, cut, &lists)?;
+        let found = union_all(On { rt, gate, cut }, alloc, &lists)?;
         hits_of(alloc, &found)
     }
 

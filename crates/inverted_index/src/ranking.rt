@@ -1,9 +1,10 @@
 //! Documents by falling weight.
-ghost use Rattle.std.specs.Prelude.{◌≡◌, ◌<◌, IfOk, MatchOption, take};
+ghost use Rattle.std.specs.Prelude.{◌≡◌, IfOk, MatchOption, take};
 ghost use Rattle.std.specs.Ordering.{nat_cmp};
 ghost use Rattle.map_model.specs.Entries.{IsIncreasing};
 ghost use Rattle.inverted_index.specs.Queries.{hits_of, ranked};
 ghost use Rattle.inverted_index.specs.Ranks.{AreBelow, AreLow, IsFirst, Leads};
+ghost use Rattle.aug_monoid.specs.Fresh.{IsFresh};
 
 use crate::hit::Hit;
 use crate::postings::Weights;
@@ -55,9 +56,7 @@ fn top_by_removals<C: Ledger>(
     k: u64,
     blank: Blank,
 ) -> Result<Vec<Hit>, NoMemory>
-    requires name { blank.name ≡ C.name }
-    requires parts { blank.parts ≡ C.parts }
-    requires some { 0 < blank.parts }
+    requires fresh { IsFresh C.name C.parts blank }
     requires low { AreLow weights.now.entries }
     ensures { IfOk result (λ hits. hits.items ≡ hits_of (take k (ranked weights.now.entries))) }
 {
@@ -92,9 +91,7 @@ pub(crate) fn top<C: Ledger>(
     k: u64,
     blank: Blank,
 ) -> Result<Vec<Hit>, NoMemory>
-    requires name { blank.name ≡ C.name }
-    requires parts { blank.parts ≡ C.parts }
-    requires some { 0 < blank.parts }
+    requires fresh { IsFresh C.name C.parts blank }
     requires low { AreLow weights.now.entries }
     ensures { IfOk result (λ hits. hits.items ≡ hits_of (take k (ranked weights.now.entries))) }
 {

@@ -10,8 +10,8 @@ use std::marker::Model;
 use std::sync::ledger::Ledger;
 
 /// A block as a vector of entries whose keys rise. It is searched by halves, in at most 9
-/// comparisons of keys where it has at most 256 entries. Each call that makes a block allocates its
-/// vector once and shares each of its entries once.
+/// comparisons of keys where it has at most 256 entries. A call that makes a block of shared entries
+/// allocates its vector once and shares each entry once; one that is given a vector takes it over.
 #[derive(Drop)]
 pub struct PlainLeaf<K: Key, V: Share> {
     entries: Vec<(K, V)>,

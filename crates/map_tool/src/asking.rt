@@ -8,7 +8,7 @@ use crate::effect::Effect;
 use crate::registers::Register;
 use crate::values::{Greatest, Within};
 use aug_monoid::{NoMemory, Steps, Totals};
-use fork_join::{Cut, Gate};
+use fork_join::{Gate, On};
 use std::alloc::Global;
 use std::marker::Sync;
 use std::sync::ledger::Ledger;
@@ -55,10 +55,8 @@ pub(crate) fn greatest(alloc: Global, map: &Register, lo: u64, hi: u64) -> Resul
 
 // How many values lie from one to another.
 fn count_within<R: Threads + Sync, G: Gate>(
-    rt: &R,
+    on: On<R, G>,
     alloc: Global,
-    gate: &G,
-    cut: Cut,
     map: &Register,
     lo: u64,
     hi: u64,
@@ -66,21 +64,19 @@ fn count_within<R: Threads + Sync, G: Gate>(
     ensures { IfOk result (λ n. n ≡ length (values_within map.now.entries lo hi)) }
 {
     let _few = map.size(); // for the proof alone: the count fits 64 bits
-    map.map_reduce(rt, alloc, gate, cut, &Within { lo, hi })
+    map.map_reduce(on.rt, alloc, on.gate, on.cut, &Within { lo, hi })
 }
 
 /// How many values lie from one to another, in time linear in the number of entries.
 pub(crate) fn count<R: Threads + Sync, G: Gate>(
-    rt: &R,
+    on: On<R, G>,
     alloc: Global,
-    gate: &G,
-    cut: Cut,
     map: &Register,
     lo: u64,
     hi: u64,
 ) -> Result<Effect, NoMemory>
     ensures { IfOk result (λ effect. effect ≡ made.Count (length (values_within map.now.entries lo hi))) }
 {
-    let within = count_within(rt, alloc, gate, cut, map, lo, hi)?;
+    let within = count_within(on, alloc, map, lo, hi)?;
     Ok(Effect::Count(within))
 }

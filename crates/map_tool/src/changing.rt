@@ -12,7 +12,7 @@ use crate::entries::entries_of;
 use crate::registers::Register;
 use crate::values::{AtLeast, Within};
 use aug_monoid::{NoMemory, Pair64, Steps};
-use fork_join::{Cut, Gate};
+use fork_join::{Gate, On};
 use script::Items;
 use std::alloc::Global;
 use std::marker::Sync;
@@ -28,39 +28,33 @@ pub(crate) fn at_least(alloc: Global, map: &Register, least: u64) -> Result<Regi
 
 /// The entries whose values lie from one number to another, in time linear in the number of entries.
 pub(crate) fn filter<R: Threads + Sync, G: Gate>(
-    rt: &R,
+    on: On<R, G>,
     alloc: Global,
-    gate: &G,
-    cut: Cut,
     map: &Register,
     lo: u64,
     hi: u64,
 ) -> Result<Register, NoMemory>
     ensures { IfOk result (λ part. part.entries ≡ values_within map.now.entries lo hi) }
 {
-    map.filter(rt, alloc, gate, cut, &Within { lo, hi })
+    map.filter(on.rt, alloc, on.gate, on.cut, &Within { lo, hi })
 }
 
 /// What puts of pairs in order make of the empty map, in the time of a sort.
 pub(crate) fn build<R: Threads + Sync, G: Gate>(
-    rt: &R,
+    on: On<R, G>,
     alloc: Global,
-    gate: &G,
-    cut: Cut,
     pairs: &[Pair64],
 ) -> Result<Register, NoMemory>
     ensures { IfOk result (λ map. map.entries ≡ build nat_cmp (entries_of pairs.now)) }
 {
     let entries = entries_of(alloc, pairs)?;
-    Register::build(rt, alloc, gate, cut, &entries)
+    Register::build(on.rt, alloc, on.gate, on.cut, &entries)
 }
 
 /// A register gets its map after puts of pairs in order, in the time of `multi_put`.
 pub(crate) fn put_all<R: Threads + Sync, G: Gate>(
-    rt: &R,
+    on: On<R, G>,
     alloc: Global,
-    gate: &G,
-    cut: Cut,
     d: u8,
     map: &Register,
     pairs: &Items<Pair64>,
@@ -69,16 +63,14 @@ pub(crate) fn put_all<R: Threads + Sync, G: Gate>(
     ensures { IfOk result (λ effect. (rs : Registers) → Does rs effect (changes d (after nat_cmp map.now.entries (puts (entries_of pairs.now))))) }
 {
     let entries = entries_of(alloc, pairs.items())?;
-    let map = map.multi_put(rt, alloc, gate, cut, &entries)?;
+    let map = map.multi_put(on.rt, alloc, on.gate, on.cut, &entries)?;
     change(d, map)
 }
 
 /// A register gets its map without keys, in the time of `multi_del`.
 pub(crate) fn del_all<R: Threads + Sync, G: Gate>(
-    rt: &R,
+    on: On<R, G>,
     alloc: Global,
-    gate: &G,
-    cut: Cut,
     d: u8,
     map: &Register,
     keys: &Items<u64>,
@@ -86,16 +78,14 @@ pub(crate) fn del_all<R: Threads + Sync, G: Gate>(
     requires { d < 16 }
     ensures { IfOk result (λ effect. (rs : Registers) → Does rs effect (changes d (after nat_cmp map.now.entries (dels keys.now)))) }
 {
-    let map = map.multi_del(rt, alloc, gate, cut, keys.items())?;
+    let map = map.multi_del(on.rt, alloc, on.gate, on.cut, keys.items())?;
     change(d, map)
 }
 
 /// A register gets the entries of `a` whose keys `b` hasn't, in the time of `difference`.
 pub(crate) fn diff<R: Threads + Sync, G: Gate>(
-    rt: &R,
+    on: On<R, G>,
     alloc: Global,
-    gate: &G,
-    cut: Cut,
     d: u8,
     a: &Register,
     b: &Register,
@@ -103,7 +93,7 @@ pub(crate) fn diff<R: Threads + Sync, G: Gate>(
     requires { d < 16 }
     ensures { IfOk result (λ effect. (rs : Registers) → Does rs effect (changes d (difference nat_cmp a.now.entries b.now.entries))) }
 {
-    let map = a.difference(rt, alloc, gate, cut, b)?;
+    let map = a.difference(on.rt, alloc, on.gate, on.cut, b)?;
     change(d, map)
 }
 

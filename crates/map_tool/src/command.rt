@@ -10,7 +10,7 @@ use crate::changing::{at_least, build, cat, del_all, diff, filter, put_all};
 use crate::effect::{Effect, change};
 use crate::registers::{Register, Registers};
 use aug_monoid::{NoMemory, Share, Steps};
-use fork_join::{Cut, Gate};
+use fork_join::{Cut, Gate, On};
 use map_records::MapCommand;
 use std::alloc::Global;
 use std::marker::Sync;
@@ -19,10 +19,8 @@ use std::thread::Threads;
 
 // What a command does, from the registers before it, in the time of the one call of its row.
 fn effect_of<R: Threads + Sync, G: Gate, C: Ledger>(
-    rt: &R,
+    on: On<R, G>,
     alloc: Global,
-    gate: &G,
-    cut: Cut,
     maps: &Registers,
     command: &MapCommand,
     steps: &mut Steps<C>,
@@ -44,28 +42,28 @@ fn effect_of<R: Threads + Sync, G: Gate, C: Ledger>(
         MapCommand::Next { m, k } => Ok(Effect::Entry(maps.at(*m).next(alloc, k, steps)?)),
         MapCommand::Prev { m, k } => Ok(Effect::Entry(maps.at(*m).prev(alloc, k, steps)?)),
         MapCommand::List { m, lo, hi } => Ok(Effect::List(maps.at(*m).slice(alloc, lo, hi)?)),
-        MapCommand::Count { m, lo, hi } => count(rt, alloc, gate, cut, maps.at(*m), *lo, *hi),
+        MapCommand::Count { m, lo, hi } => count(on, alloc, maps.at(*m), *lo, *hi),
         MapCommand::Copy { d, m } => change(*d, maps.at(*m).share(alloc)?),
         MapCommand::Clear { d } => change(*d, Register::empty()),
-        MapCommand::Build { d, pairs } => change(*d, build(rt, alloc, gate, cut, pairs.items())?),
-        MapCommand::Mput { d, pairs } => put_all(rt, alloc, gate, cut, *d, maps.at(*d), pairs),
-        MapCommand::Mdel { d, keys } => del_all(rt, alloc, gate, cut, *d, maps.at(*d), keys),
+        MapCommand::Build { d, pairs } => change(*d, build(on, alloc, pairs.items())?),
+        MapCommand::Mput { d, pairs } => put_all(on, alloc, *d, maps.at(*d), pairs),
+        MapCommand::Mdel { d, keys } => del_all(on, alloc, *d, maps.at(*d), keys),
         MapCommand::Union { d, a, b, how } => {
             let (a, b) = (maps.at(*a), maps.at(*b));
-            change(*d, a.union(rt, alloc, gate, cut, b, how)?)
+            change(*d, a.union(on.rt, alloc, on.gate, on.cut, b, how)?)
         }
         MapCommand::Inter { d, a, b, how } => {
             let (a, b) = (maps.at(*a), maps.at(*b));
-            change(*d, a.intersect(rt, alloc, gate, cut, b, how)?)
+            change(*d, a.intersect(on.rt, alloc, on.gate, on.cut, b, how)?)
         }
-        MapCommand::Diff { d, a, b } => diff(rt, alloc, gate, cut, *d, maps.at(*a), maps.at(*b)),
+        MapCommand::Diff { d, a, b } => diff(on, alloc, *d, maps.at(*a), maps.at(*b)),
         MapCommand::Cat { d, a, b } => cat(alloc, *d, maps.at(*a), maps.at(*b), steps),
         MapCommand::Below { d, m, k } => change(*d, maps.at(*m).below(alloc, k)?),
         MapCommand::Above { d, m, k } => change(*d, maps.at(*m).above(alloc, k)?),
         MapCommand::Slice { d, m, lo, hi } => change(*d, maps.at(*m).slice(alloc, lo, hi)?),
         MapCommand::Atleast { d, m, t } => change(*d, at_least(alloc, maps.at(*m), *t)?),
         MapCommand::Filter { d, m, lo, hi } => {
-            change(*d, filter(rt, alloc, gate, cut, maps.at(*m), *lo, *hi)?)
+            change(*d, filter(on, alloc, maps.at(*m), *lo, *hi)?)
         }
     }
 }
@@ -89,6 +87,6 @@ pub fn map_command<R: Threads + Sync, G: Gate, C: Ledger>(
     ensures refused { OnErr result (registers.new ≡ registers.old) }
     ensures cost { IfSome (most_steps registers.old command.now) (λ most. steps.new ≤ steps.old + most) }
 {
-    let effect = effect_of(rt, alloc, gate, cut, registers, command, steps)?;
+    let effect = effect_of(On { rt, gate, cut }, alloc, registers, command, steps)?;
     registers.apply(alloc, effect, steps, text)
 }

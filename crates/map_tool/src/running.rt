@@ -6,12 +6,13 @@ ghost use Rattle.map_tool.specs.Effects.{map_after, map_reply};
 ghost use Rattle.map_tool.specs.Registers.{empty_registers, maps_of};
 ghost use Rattle.map_tool.specs.Runs.{after_all, puts_into};
 ghost use Rattle.script.specs.Replies.{replies};
+ghost use Rattle.aug_monoid.specs.Fresh.{IsFresh};
 
 use crate::command::map_command;
 use crate::registers::Registers;
 use crate::runs::{entries_put, run_len};
 use aug_monoid::{NoMemory, Steps};
-use fork_join::{Cut, Gate};
+use fork_join::{Gate, On};
 use map_records::MapCommand;
 use std::alloc::Global;
 use std::marker::{Brand, Sync};
@@ -51,10 +52,8 @@ fn long_run(
 
 // Runs commands one by one.
 fn run_each<R: Threads + Sync, G: Gate, C: Ledger>(
-    rt: &R,
+    on: On<R, G>,
     alloc: Global,
-    gate: &G,
-    cut: Cut,
     run: &mut Run,
     commands: &[MapCommand],
     steps: &mut Steps<C>,
@@ -65,10 +64,10 @@ fn run_each<R: Threads + Sync, G: Gate, C: Ledger>(
 {
     for command in commands {
         map_command(
-            rt,
+            on.rt,
             alloc,
-            gate,
-            cut,
+            on.gate,
+            on.cut,
             &mut run.registers,
             command,
             steps,
@@ -80,10 +79,8 @@ fn run_each<R: Threads + Sync, G: Gate, C: Ledger>(
 
 // Runs commands, all at once where they are a long run of puts.
 fn run_together<R: Threads + Sync, G: Gate, C: Ledger>(
-    rt: &R,
+    on: On<R, G>,
     alloc: Global,
-    gate: &G,
-    cut: Cut,
     run: &mut Run,
     commands: &[MapCommand],
     steps: &mut Steps<C>,
@@ -95,18 +92,16 @@ fn run_together<R: Threads + Sync, G: Gate, C: Ledger>(
     match long_run(alloc, &run.registers, commands)? {
         Some((number, entries)) => {
             run.registers
-                .put_many(rt, alloc, gate, cut, number, &entries, &mut run.text)
+                .put_many(on, alloc, number, &entries, &mut run.text)
         }
-        None => run_each(rt, alloc, gate, cut, run, commands, steps),
+        None => run_each(on, alloc, run, commands, steps),
     }
 }
 
 // Runs commands in order, and answers their replies.
 fn run_all<R: Threads + Sync, G: Gate, C: Ledger>(
-    rt: &R,
+    on: On<R, G>,
     alloc: Global,
-    gate: &G,
-    cut: Cut,
     commands: &[MapCommand],
     steps: &mut Steps<C>,
 ) -> Result<Vec<u8>, NoMemory>
@@ -120,7 +115,7 @@ fn run_all<R: Threads + Sync, G: Gate, C: Ledger>(
     let mut rest = commands;
     while !rest.is_empty() {
         let (first, later) = rest.split_at(run_len(rest));
-        run_together(rt, alloc, gate, cut, &mut run, first, steps)?;
+        run_together(on, alloc, &mut run, first, steps)?;
         rest = later;
     }
     Ok(run.text)
@@ -128,34 +123,28 @@ fn run_all<R: Threads + Sync, G: Gate, C: Ledger>(
 
 // The same, with steps that begin with a blank.
 fn run_counted<R: Threads + Sync, G: Gate, C: Ledger>(
-    rt: &R,
+    on: On<R, G>,
     alloc: Global,
-    gate: &G,
-    cut: Cut,
     commands: &[MapCommand],
     blank: Blank,
 ) -> Result<Vec<u8>, NoMemory>
     requires registers { AllByRecursion HasRegisters commands.now }
-    requires name { blank.name ≡ C.name }
-    requires parts { blank.parts ≡ C.parts }
-    requires some { 0 < blank.parts }
+    requires fresh { IsFresh C.name C.parts blank }
     ensures { IfOk result (λ text. text.items ≡ replies map_reply map_after empty_registers commands.now) }
 {
     let mut steps = Steps::<C>::start(blank);
-    run_all(rt, alloc, gate, cut, commands, &mut steps)
+    run_all(on, alloc, commands, &mut steps)
 }
 
 /// The replies to commands of the tool map, run in order from empty registers. They depend neither on the runtime nor on the
 /// gate nor on the cut.
 pub fn run_map<R: Threads + Sync, G: Gate>(
-    rt: &R,
+    on: On<R, G>,
     alloc: Global,
-    gate: &G,
-    cut: Cut,
     commands: &[MapCommand],
 ) -> Result<Vec<u8>, NoMemory>
     requires { AllByRecursion HasRegisters commands.now }
     ensures { IfOk result (λ text. text.items ≡ replies map_reply map_after empty_registers commands.now) }
 {
-    run_counted::<R, G, Brand>(rt, alloc, gate, cut, commands, Blank::new(1))
+    run_counted::<R, G, Brand>(on, alloc, commands, Blank::new(1))
 }

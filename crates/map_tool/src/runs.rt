@@ -7,7 +7,7 @@ ghost use Rattle.script.specs.Replies.{replies};
 
 use crate::registers::{Register, Registers};
 use aug_monoid::NoMemory;
-use fork_join::{Cut, Gate};
+use fork_join::{Gate, On};
 use map_records::MapCommand;
 use put_runs::put_run;
 use script::line;
@@ -77,10 +77,8 @@ impl Registers {
     /// the register and of the text.
     pub(crate) fn put_many<R: Threads + Sync, G: Gate>(
         &mut self,
-        rt: &R,
+        on: On<R, G>,
         alloc: Global,
-        gate: &G,
-        cut: Cut,
         number: u8,
         entries: &[(u64, u64)],
         text: &mut Vec<u8>,
@@ -90,7 +88,7 @@ impl Registers {
         ensures after { OnOk result (maps_of self.new ≡ after_all (maps_of self.old) (puts_into number entries.now)) }
     {
         let map = mem::replace(&mut self.maps[number as usize], Register::empty());
-        let (map, sizes) = put_run(rt, alloc, gate, cut, map, entries)?;
+        let (map, sizes) = put_run(on, alloc, map, entries)?;
         push_oks(text, &sizes)?;
         self.maps[number as usize] = map;
         Ok(())

@@ -1,5 +1,6 @@
 //! Many questions to one map.
-ghost use Rattle.std.specs.Prelude.{◌≡◌, ◌<◌};
+
+ghost use Rattle.aug_monoid.specs.Fresh.{IsFresh};
 
 use crate::Totaled;
 use crate::checksum::Checksum;
@@ -8,7 +9,7 @@ use crate::numbers::Numbers;
 use crate::timed::{Timed, since};
 use anyhow::Result;
 use aug_monoid::{NoMemory, Steps};
-use fork_join::Cut;
+use fork_join::{FreeGate, On};
 use std::alloc::Global;
 use std::marker::{Brand, Sync};
 use std::rt::Clock;
@@ -148,9 +149,7 @@ fn ask_all<C: Ledger>(
     size: u64,
     blank: Blank,
 ) -> Result<u64, NoMemory>
-    requires name { blank.name ≡ C.name }
-    requires parts { blank.parts ≡ C.parts }
-    requires some { 0 < blank.parts }
+    requires { IsFresh C.name C.parts blank }
 {
     let mut steps = Steps::<C>::start(blank);
     let mut checksum = Checksum::new();
@@ -182,30 +181,28 @@ fn answers(
 
 /// The map that is asked. Gets are timed in one that puts made.
 fn asked_map<R: Threads + Sync>(
-    rt: &R,
+    on: On<R, FreeGate>,
     alloc: Global,
     question: Question,
-    cut: Cut,
     pairs: &[(u64, u64)],
 ) -> Result<Totaled, NoMemory> {
     match question {
         Question::Get => all_put(alloc, pairs),
-        _ => built(rt, alloc, cut, pairs),
+        _ => built(on, alloc, pairs),
     }
 }
 
 pub(crate) fn time<R: Threads + Clock + Sync>(
-    rt: &R,
+    on: On<R, FreeGate>,
     alloc: Global,
     question: Question,
     size: u64,
     seed: u64,
-    cut: Cut,
 ) -> Result<Timed> {
     let mut numbers = Numbers::new(seed);
     let pairs = numbers.pairs(alloc, size, size.saturating_mul(2))?;
-    let map = asked_map(rt, alloc, question, cut, &pairs)?;
-    let start = Instant::now(rt)?;
+    let map = asked_map(on, alloc, question, &pairs)?;
+    let start = Instant::now(on.rt)?;
     let checksum = answers(alloc, &map, question, &mut numbers, size)?;
-    since(rt, start, checksum)
+    since(on.rt, start, checksum)
 }

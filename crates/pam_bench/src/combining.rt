@@ -8,7 +8,7 @@ use crate::numbers::Numbers;
 use crate::timed::{Timed, checksum_of, made, since};
 use anyhow::Result;
 use aug_monoid::{NoMemory, Reduce, SatSum, Test};
-use fork_join::{Cut, FreeGate};
+use fork_join::{FreeGate, On};
 use std::alloc::Global;
 use std::marker::Sync;
 use std::rt::Clock;
@@ -36,49 +36,46 @@ pub(crate) enum Whole {
 
 /// A map of as many random pairs, with keys below a bound.
 fn random_map<R: Threads + Sync>(
-    rt: &R,
+    on: On<R, FreeGate>,
     alloc: Global,
     numbers: &mut Numbers,
     count: u64,
     bound: u64,
-    cut: Cut,
 ) -> Result<Totaled, NoMemory> {
     let pairs = numbers.pairs(alloc, count, bound)?;
-    built(rt, alloc, cut, &pairs)
+    built(on, alloc, &pairs)
 }
 
 fn combine<R: Threads + Sync>(
-    rt: &R,
+    on: On<R, FreeGate>,
     alloc: Global,
     combined: Combined,
-    cut: Cut,
     a: &Totaled,
     b: &Totaled,
 ) -> Result<Totaled, NoMemory> {
     match combined {
-        Combined::Union => a.union(rt, alloc, &FreeGate, cut, b, &SatSum),
-        Combined::Intersection => a.intersect(rt, alloc, &FreeGate, cut, b, &SatSum),
-        Combined::Difference => a.difference(rt, alloc, &FreeGate, cut, b),
+        Combined::Union => a.union(on.rt, alloc, on.gate, on.cut, b, &SatSum),
+        Combined::Intersection => a.intersect(on.rt, alloc, on.gate, on.cut, b, &SatSum),
+        Combined::Difference => a.difference(on.rt, alloc, on.gate, on.cut, b),
     }
 }
 
 /// Two maps, one of half the size and one of another size.
 pub(crate) fn time_two<R: Threads + Clock + Sync>(
-    rt: &R,
+    on: On<R, FreeGate>,
     alloc: Global,
     combined: Combined,
     size: u64,
     other: u64,
     seed: u64,
-    cut: Cut,
 ) -> Result<Timed> {
     let mut numbers = Numbers::new(seed);
     let half = size / 2;
-    let a = random_map(rt, alloc, &mut numbers, half, half * 2, cut)?;
-    let b = random_map(rt, alloc, &mut numbers, other, half * 2, cut)?;
-    let start = Instant::now(rt)?;
-    let map = combine(rt, alloc, combined, cut, &a, &b)?;
-    made(rt, alloc, start, &map)
+    let a = random_map(on, alloc, &mut numbers, half, half * 2)?;
+    let b = random_map(on, alloc, &mut numbers, other, half * 2)?;
+    let start = Instant::now(on.rt)?;
+    let map = combine(on, alloc, combined, &a, &b)?;
+    made(on.rt, alloc, start, &map)
 }
 
 /// Even values.
@@ -132,28 +129,27 @@ impl Reduce<u64, u64> for WholeSum {
 }
 
 pub(crate) fn time_one<R: Threads + Clock + Sync>(
-    rt: &R,
+    on: On<R, FreeGate>,
     alloc: Global,
     whole: Whole,
     size: u64,
     seed: u64,
-    cut: Cut,
 ) -> Result<Timed> {
     let mut numbers = Numbers::new(seed);
-    let map = random_map(rt, alloc, &mut numbers, size, size.saturating_mul(2), cut)?;
-    let start = Instant::now(rt)?;
+    let map = random_map(on, alloc, &mut numbers, size, size.saturating_mul(2))?;
+    let start = Instant::now(on.rt)?;
     match whole {
         Whole::Filter => {
-            let even = map.filter(rt, alloc, &FreeGate, cut, &EvenValue)?;
-            made(rt, alloc, start, &even)
+            let even = map.filter(on.rt, alloc, on.gate, on.cut, &EvenValue)?;
+            made(on.rt, alloc, start, &even)
         }
         Whole::MapReduce => {
-            let sum = map.map_reduce(rt, alloc, &FreeGate, cut, &WholeSum)?;
-            since(rt, start, sum)
+            let sum = map.map_reduce(on.rt, alloc, on.gate, on.cut, &WholeSum)?;
+            since(on.rt, start, sum)
         }
         Whole::Walk => {
             let checksum = checksum_of(alloc, &map)?;
-            since(rt, start, checksum)
+            since(on.rt, start, checksum)
         }
     }
 }

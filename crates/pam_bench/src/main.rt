@@ -17,7 +17,7 @@ use asking::Question;
 use aug_map::{CodedMap, PlainMap};
 use aug_monoid::SumMax;
 use combining::{Combined, Whole, time_one, time_two};
-use fork_join::Cut;
+use fork_join::{Cut, FreeGate, On};
 use making::Making;
 use std::alloc::Global;
 use std::env;
@@ -42,31 +42,30 @@ fn cut_of(workers: u32) -> Result<Cut> {
 
 // Does the operation of a name.
 fn run<R: Threads + Clock + Sync>(
-    rt: &R,
+    on: On<R, FreeGate>,
     alloc: Global,
     name: &str,
     size: u64,
     seed: u64,
-    cut: Cut,
 ) -> Result<Timed> {
     match name {
-        "put" => making::time(rt, alloc, Making::Puts, size, seed, cut),
-        "put_mut" => making::time(rt, alloc, Making::PutsInPlace, size, seed, cut),
-        "build" => making::time(rt, alloc, Making::Build, size, seed, cut),
-        "coded" => making::time(rt, alloc, Making::Coded, size, seed, cut),
-        "coded_rising" => making::time(rt, alloc, Making::CodedRising, size, seed, cut),
-        "union" => time_two(rt, alloc, Combined::Union, size, size / 2, seed, cut),
-        "union_small" => time_two(rt, alloc, Combined::Union, size, size / 2000, seed, cut),
-        "intersect" => time_two(rt, alloc, Combined::Intersection, size, size / 2, seed, cut),
-        "difference" => time_two(rt, alloc, Combined::Difference, size, size / 2, seed, cut),
-        "filter" => time_one(rt, alloc, Whole::Filter, size, seed, cut),
-        "map_reduce" => time_one(rt, alloc, Whole::MapReduce, size, seed, cut),
-        "walk" => time_one(rt, alloc, Whole::Walk, size, seed, cut),
-        "get" => asking::time(rt, alloc, Question::Get, size, seed, cut),
-        "range_fold" => asking::time(rt, alloc, Question::RangeFold, size, seed, cut),
-        "rank" => asking::time(rt, alloc, Question::Rank, size, seed, cut),
-        "select" => asking::time(rt, alloc, Question::Select, size, seed, cut),
-        "neighbours" => asking::time(rt, alloc, Question::Neighbours, size, seed, cut),
+        "put" => making::time(on, alloc, Making::Puts, size, seed),
+        "put_mut" => making::time(on, alloc, Making::PutsInPlace, size, seed),
+        "build" => making::time(on, alloc, Making::Build, size, seed),
+        "coded" => making::time(on, alloc, Making::Coded, size, seed),
+        "coded_rising" => making::time(on, alloc, Making::CodedRising, size, seed),
+        "union" => time_two(on, alloc, Combined::Union, size, size / 2, seed),
+        "union_small" => time_two(on, alloc, Combined::Union, size, size / 2000, seed),
+        "intersect" => time_two(on, alloc, Combined::Intersection, size, size / 2, seed),
+        "difference" => time_two(on, alloc, Combined::Difference, size, size / 2, seed),
+        "filter" => time_one(on, alloc, Whole::Filter, size, seed),
+        "map_reduce" => time_one(on, alloc, Whole::MapReduce, size, seed),
+        "walk" => time_one(on, alloc, Whole::Walk, size, seed),
+        "get" => asking::time(on, alloc, Question::Get, size, seed),
+        "range_fold" => asking::time(on, alloc, Question::RangeFold, size, seed),
+        "rank" => asking::time(on, alloc, Question::Rank, size, seed),
+        "select" => asking::time(on, alloc, Question::Select, size, seed),
+        "neighbours" => asking::time(on, alloc, Question::Neighbours, size, seed),
         _ => bail!("no such operation"),
     }
 }
@@ -80,8 +79,12 @@ fn main(rt: HostRuntime) -> Result<()> {
         Some(workers) => workers.parse()?,
         None => 1,
     };
-    let cut = cut_of(workers)?;
-    let timed = run(&rt, rt.alloc(), &name, size.parse()?, seed.parse()?, cut)?;
+    let on = On {
+        rt: &rt,
+        gate: &FreeGate,
+        cut: cut_of(workers)?,
+    };
+    let timed = run(on, rt.alloc(), &name, size.parse()?, seed.parse()?)?;
     println!(rt; "{}", timed.checksum)?;
     eprintln!(rt; "{}", timed.nanoseconds)?;
     Ok(())

@@ -1,12 +1,13 @@
 //! Maps made of pairs.
-ghost use Rattle.std.specs.Prelude.{◌≡◌, ◌<◌};
+
+ghost use Rattle.aug_monoid.specs.Fresh.{IsFresh};
 
 use crate::numbers::Numbers;
 use crate::timed::{Timed, checksum_of};
 use crate::{Coded, Totaled};
 use anyhow::Result;
 use aug_monoid::{NoMemory, Steps};
-use fork_join::{Cut, FreeGate};
+use fork_join::{FreeGate, On};
 use std::alloc::Global;
 use std::marker::{Brand, Sync};
 use std::rt::Clock;
@@ -41,9 +42,7 @@ fn put_all<C: Ledger>(
     pairs: &[(u64, u64)],
     blank: Blank,
 ) -> Result<Totaled, NoMemory>
-    requires name { blank.name ≡ C.name }
-    requires parts { blank.parts ≡ C.parts }
-    requires some { 0 < blank.parts }
+    requires { IsFresh C.name C.parts blank }
 {
     let mut steps = Steps::<C>::start(blank);
     let mut map = Totaled::empty();
@@ -58,9 +57,7 @@ fn put_all_in_place<C: Ledger>(
     pairs: &[(u64, u64)],
     blank: Blank,
 ) -> Result<Totaled, NoMemory>
-    requires name { blank.name ≡ C.name }
-    requires parts { blank.parts ≡ C.parts }
-    requires some { 0 < blank.parts }
+    requires { IsFresh C.name C.parts blank }
 {
     let mut steps = Steps::<C>::start(blank);
     let mut map = Totaled::empty();
@@ -82,27 +79,25 @@ pub(crate) fn all_put(alloc: Global, pairs: &[(u64, u64)]) -> Result<Totaled, No
 
 /// The map of pairs that is made at once.
 pub(crate) fn built<R: Threads + Sync>(
-    rt: &R,
+    on: On<R, FreeGate>,
     alloc: Global,
-    cut: Cut,
     pairs: &[(u64, u64)],
 ) -> Result<Totaled, NoMemory> {
-    Totaled::build(rt, alloc, &FreeGate, cut, pairs)
+    Totaled::build(on.rt, alloc, on.gate, on.cut, pairs)
 }
 
 fn make<R: Threads + Sync>(
-    rt: &R,
+    on: On<R, FreeGate>,
     alloc: Global,
     making: Making,
-    cut: Cut,
     pairs: &[(u64, u64)],
 ) -> Result<Made, NoMemory> {
     match making {
         Making::Puts => Ok(Made::Plain(all_put(alloc, pairs)?)),
         Making::PutsInPlace => Ok(Made::Plain(all_put_in_place(alloc, pairs)?)),
-        Making::Build => Ok(Made::Plain(built(rt, alloc, cut, pairs)?)),
+        Making::Build => Ok(Made::Plain(built(on, alloc, pairs)?)),
         Making::Coded | Making::CodedRising => {
-            Ok(Made::Coded(Coded::build(rt, alloc, &FreeGate, cut, pairs)?))
+            Ok(Made::Coded(Coded::build(on.rt, alloc, on.gate, on.cut, pairs)?))
         }
     }
 }
@@ -143,17 +138,16 @@ fn told(alloc: Global, making: Making, made: &Made) -> Result<u64, NoMemory> {
 }
 
 pub(crate) fn time<R: Threads + Clock + Sync>(
-    rt: &R,
+    on: On<R, FreeGate>,
     alloc: Global,
     making: Making,
     size: u64,
     seed: u64,
-    cut: Cut,
 ) -> Result<Timed> {
     let pairs = pairs_for(alloc, making, size, seed)?;
-    let start = Instant::now(rt)?;
-    let made = make(rt, alloc, making, cut, &pairs)?;
-    let nanoseconds = start.elapsed(rt)?.as_nanos();
+    let start = Instant::now(on.rt)?;
+    let made = make(on, alloc, making, &pairs)?;
+    let nanoseconds = start.elapsed(on.rt)?.as_nanos();
     Ok(Timed {
         checksum: told(alloc, making, &made)?,
         nanoseconds,

@@ -7,7 +7,7 @@ ghost use Rattle.range_tree.specs.Points.{entry_of};
 
 use crate::Weighed;
 use aug_monoid::NoMemory;
-use fork_join::{Cut, Gate};
+use fork_join::{Gate, On};
 use range_tree::{Point, Points};
 use std::alloc::Global;
 use std::marker::{Model, Sync};
@@ -59,17 +59,16 @@ impl Board {
     /// All points: those that wait are added by one bulk operation.
     pub(crate) fn settled<R: Threads + Sync, G: Gate>(
         self,
-        rt: &R,
+        on: On<R, G>,
         alloc: Global,
-        gate: &G,
-        cut: Cut,
     ) -> Result<Points, NoMemory>
         ensures { IfOk result (λ points. points ≡ self) }
     {
         if self.waiting.is_empty() {
             return Ok(self.points);
         }
-        self.points.add(rt, alloc, gate, cut, &self.waiting)
+        self.points
+            .add(on.rt, alloc, on.gate, on.cut, &self.waiting)
     }
 }
 

@@ -10,7 +10,7 @@ use crate::PointsCommand;
 use crate::asking::{list, rect, total};
 use crate::board::Board;
 use aug_monoid::{NoMemory, Pair64};
-use fork_join::{Cut, Gate};
+use fork_join::{Gate, On};
 use range_tree::Points;
 use script::line;
 use std::alloc::Global;
@@ -20,10 +20,8 @@ use std::thread::Threads;
 /// The replies to the commands, run in order from no points on. They depend neither on the runtime nor on the gate nor on the
 /// cut. Commands in a row that add points are one bulk operation, which forks where the cut allows it.
 pub fn run_points<R: Threads + Sync, G: Gate>(
-    rt: &R,
+    on: On<R, G>,
     alloc: Global,
-    gate: &G,
-    cut: Cut,
     commands: &[PointsCommand],
 ) -> Result<Vec<u8>, NoMemory>
     ensures { IfOk result (λ text. text.items ≡ replies points_reply points_after [] commands.now) }
@@ -31,19 +29,17 @@ pub fn run_points<R: Threads + Sync, G: Gate>(
     let mut board = Board::of(alloc, Points::new());
     let mut text = Vec::new(alloc);
     for command in commands {
-        board = run_one(rt, alloc, gate, cut, board, command, &mut text)?;
+        board = run_one(on, alloc, board, command, &mut text)?;
     }
     // The points that still wait are added too, though nothing asks for them any more.
-    let _points = board.settled(rt, alloc, gate, cut)?;
+    let _points = board.settled(on, alloc)?;
     Ok(text)
 }
 
 // Runs a command, and appends its reply.
 fn run_one<R: Threads + Sync, G: Gate>(
-    rt: &R,
+    on: On<R, G>,
     alloc: Global,
-    gate: &G,
-    cut: Cut,
     board: Board,
     command: &PointsCommand,
     text: &mut Vec<u8>,
@@ -58,20 +54,20 @@ fn run_one<R: Threads + Sync, G: Gate>(
         }
         PointsCommand::Del { places, .. } => {
             let places = places.items();
-            remove(rt, alloc, gate, cut, board, places, text)
+            remove(on, alloc, board, places, text)
         }
         PointsCommand::Size { .. } => {
-            let points = board.settled(rt, alloc, gate, cut)?;
+            let points = board.settled(on, alloc)?;
             line(text, "size", &[points.size()])?;
             Ok(Board::of(alloc, points))
         }
         PointsCommand::Sum { x1, x2, y1, y2, .. } => {
-            let points = board.settled(rt, alloc, gate, cut)?;
+            let points = board.settled(on, alloc)?;
             total(alloc, &points, rect(*x1, *x2, *y1, *y2), text)?;
             Ok(Board::of(alloc, points))
         }
         PointsCommand::List { x1, x2, y1, y2, .. } => {
-            let points = board.settled(rt, alloc, gate, cut)?;
+            let points = board.settled(on, alloc)?;
             list(alloc, &points, rect(*x1, *x2, *y1, *y2), text)?;
             Ok(Board::of(alloc, points))
         }
@@ -80,10 +76,8 @@ fn run_one<R: Threads + Sync, G: Gate>(
 
 // Removes the points at these places, and appends the reply.
 fn remove<R: Threads + Sync, G: Gate>(
-    rt: &R,
+    on: On<R, G>,
     alloc: Global,
-    gate: &G,
-    cut: Cut,
     board: Board,
     places: &[Pair64],
     text: &mut Vec<u8>,
@@ -91,8 +85,8 @@ fn remove<R: Threads + Sync, G: Gate>(
     ensures after { IfOk result (λ next. next ≡ after pair64_cmp board (dels places.now)) }
     ensures reply { OnOk result (text.new.items ≡ text.old.items ++ line_of (codes "ok") []) }
 {
-    let points = board.settled(rt, alloc, gate, cut)?;
-    let fewer = points.del(rt, alloc, gate, cut, places)?;
+    let points = board.settled(on, alloc)?;
+    let fewer = points.del(on.rt, alloc, on.gate, on.cut, places)?;
     line(text, "ok", &[])?;
     Ok(Board::of(alloc, fewer))
 }

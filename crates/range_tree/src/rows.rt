@@ -4,7 +4,7 @@ ghost use Rattle.range_tree.specs.Listings.{swapped_entry};
 ghost use Rattle.range_tree.specs.Rows.{AreRows, row_increases, row_of, rows_monoid, rows_of, rows_of_both};
 
 use crate::places::swapped;
-use aug_map::{Map, MapOver};
+use aug_map::Map;
 use aug_monoid::{Augment, Leaf, NoMemory, Pair64, Second, Share, Steps, SumMax};
 use row_leaf::RowLeaf;
 use std::alloc::Global;
@@ -79,7 +79,7 @@ fn rows_of_leaf<L: Leaf<Pair64, u64>>(alloc: Global, leaf: &L) -> Result<Rows, N
 {
     let _number = leaf.len(); // for the proof alone: the keys of a leaf rise
     let list = swapped_entries(alloc, leaf)?;
-    let map = MapOver::build_alone(alloc, &list)?;
+    let map = Map::build_alone(alloc, &list)?;
     Ok(Rows { map })
 }
 
@@ -111,14 +111,12 @@ impl Augment for Places {
     ghost augs_never_refuse = { λ refuses. absurd refuses };
 
     fn base(alloc: Global, key: &Pair64, val: &u64) -> Result<Rows, NoMemory> {
-        let map = MapOver::single(alloc, swapped(*key), *val)?;
+        let map = Map::single(alloc, swapped(*key), *val)?;
         Ok(Rows { map })
     }
 
     fn unit() -> Rows {
-        Rows {
-            map: MapOver::empty(),
-        }
+        Rows { map: Map::empty() }
     }
 
     fn combine<C: Ledger>(

@@ -1,9 +1,10 @@
 //! Totals of rows.
-ghost use Rattle.std.specs.Prelude.{◌≡◌, ◌<◌, length, IfOk};
+ghost use Rattle.std.specs.Prelude.{◌≡◌, length, IfOk};
 ghost use Rattle.aug_monoid.specs.Exact.{pair64_cmp};
 ghost use Rattle.map_model.specs.Parts.{left_of, slice};
 ghost use Rattle.range_tree.specs.Totals.{TotalFits, capped_total, rows_projection, rows_total, rows_total_fits};
 ghost use Rattle.range_tree.specs.Totals.{total_both, total_monoid};
+ghost use Rattle.aug_monoid.specs.Fresh.{IsFresh};
 
 use crate::places::{greatest_at, least_at};
 use crate::points::Total;
@@ -111,9 +112,7 @@ fn total_uncounted<C: Ledger>(
     hi: &Pair64,
     blank: Blank,
 ) -> Result<Total, NoMemory>
-    requires name { blank.name ≡ C.name }
-    requires parts { blank.parts ≡ C.parts }
-    requires some { 0 < blank.parts }
+    requires { IsFresh C.name C.parts blank }
     ensures { IfOk result (λ total. total ≡ capped_total (slice pair64_cmp map.now.entries lo.now hi.now)) }
 {
     let mut steps = Steps::<C>::start(blank);

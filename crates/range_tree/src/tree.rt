@@ -12,7 +12,7 @@ use crate::places::{greatest_at, least_at};
 use crate::points::{Point, Rect, Total};
 use crate::rows::{Places, Rows};
 use crate::totals::RowTotal;
-use aug_map::{Map, MapOver};
+use aug_map::Map;
 use aug_monoid::{NoMemory, Pair64, Share};
 use fork_join::{Cut, Gate};
 use row_leaf::RowLeaf;
@@ -63,9 +63,7 @@ impl Points {
     pub fn new() -> Points
         ensures { result ≡ [] }
     {
-        Points {
-            map: MapOver::empty(),
-        }
+        Points { map: Map::empty() }
     }
 
     /// How many points there are. O(1).

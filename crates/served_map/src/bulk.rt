@@ -3,11 +3,12 @@ ghost use Rattle.std.specs.Prelude.{◌≡◌, ◌<◌, IfOk, fold, length};
 ghost use Rattle.std.specs.List.{All, flat_map};
 ghost use Rattle.op_runs.specs.Steps.{IsSingle, step};
 ghost use Rattle.versions.specs.History.{after};
+ghost use Rattle.aug_monoid.specs.Fresh.{IsFresh};
 
 use crate::applying::{ServedMap, apply_all, apply_one};
 use crate::dividing::with_outcomes;
 use aug_monoid::{NoMemory, Steps};
-use fork_join::{Cut, Gate};
+use fork_join::{Gate, On};
 use op_runs::{Op, outcomes_of, split_at_wipe};
 use std::alloc::Global;
 use std::marker::{Brand, Sync};
@@ -21,10 +22,8 @@ const FEW_OPS: usize = 64;
 
 /// The map after operations without wipes: they are composed for each key, and what they come to is done at once.
 fn at_once<R: Threads + Sync, G: Gate>(
-    rt: &R,
+    on: On<R, G>,
     alloc: Global,
-    gate: &G,
-    cut: Cut,
     map: ServedMap,
     ops: &[Op],
 ) -> Result<ServedMap, NoMemory>
@@ -32,16 +31,14 @@ fn at_once<R: Threads + Sync, G: Gate>(
     ensures { IfOk result (λ changed. changed.entries ≡ fold step map.entries ops.now) }
 {
     let _rises = map.size(); // for the proof alone: keys rise
-    let outcomes = outcomes_of(rt, alloc, ops)?;
-    with_outcomes(rt, alloc, gate, cut, map, &outcomes)
+    let outcomes = outcomes_of(on.rt, alloc, ops)?;
+    with_outcomes(on, alloc, map, &outcomes)
 }
 
 /// Applies operations without wipes.
 fn apply_run<R: Threads + Sync, G: Gate, C: Ledger>(
-    rt: &R,
+    on: On<R, G>,
     alloc: Global,
-    gate: &G,
-    cut: Cut,
     map: &mut ServedMap,
     ops: &[Op],
     steps: &mut Steps<C>,
@@ -53,16 +50,14 @@ fn apply_run<R: Threads + Sync, G: Gate, C: Ledger>(
         return apply_all(alloc, map, ops, steps);
     }
     let whole = mem::replace(map, ServedMap::empty());
-    *map = at_once(rt, alloc, gate, cut, whole, ops)?;
+    *map = at_once(on, alloc, whole, ops)?;
     Ok(())
 }
 
 /// Applies operations up to the first wipe and with it. Answers what follows.
 fn apply_part<'a, R: Threads + Sync, G: Gate, C: Ledger>(
-    rt: &R,
+    on: On<R, G>,
     alloc: Global,
-    gate: &G,
-    cut: Cut,
     map: &mut ServedMap,
     ops: &'a [Op],
     steps: &mut Steps<C>,
@@ -71,7 +66,7 @@ fn apply_part<'a, R: Threads + Sync, G: Gate, C: Ledger>(
     ensures shorter { IfOk result (λ rest. 0 < length ops.now → length rest.now < length ops.now) }
 {
     let (run, tail): (&[Op], &[Op]) = split_at_wipe(ops);
-    apply_run(rt, alloc, gate, cut, map, run, steps)?;
+    apply_run(on, alloc, map, run, steps)?;
     let Some((wipe, rest)) = tail.split_first() else {
         return Ok(tail);
     };
@@ -81,10 +76,8 @@ fn apply_part<'a, R: Threads + Sync, G: Gate, C: Ledger>(
 
 /// Applies operations in order, part by part.
 fn apply_parts<R: Threads + Sync, G: Gate, C: Ledger>(
-    rt: &R,
+    on: On<R, G>,
     alloc: Global,
-    gate: &G,
-    cut: Cut,
     map: &mut ServedMap,
     ops: &[Op],
     steps: &mut Steps<C>,
@@ -93,7 +86,7 @@ fn apply_parts<R: Threads + Sync, G: Gate, C: Ledger>(
 {
     let mut rest = ops;
     while !rest.is_empty() {
-        rest = apply_part(rt, alloc, gate, cut, map, rest, steps)?;
+        rest = apply_part(on, alloc, map, rest, steps)?;
     }
     Ok(())
 }
@@ -140,10 +133,8 @@ fn apply_each<C: Ledger>(
 
 /// Applies the operations of the batches in order, part by part.
 fn apply_many<R: Threads + Sync, G: Gate, C: Ledger>(
-    rt: &R,
+    on: On<R, G>,
     alloc: Global,
-    gate: &G,
-    cut: Cut,
     map: &mut ServedMap,
     batches: &[Batch<Op>],
     steps: &mut Steps<C>,
@@ -151,36 +142,30 @@ fn apply_many<R: Threads + Sync, G: Gate, C: Ledger>(
     ensures { IfOk result (λ _. map.new.entries ≡ after step map.old.entries batches.now) }
 {
     let ops = ops_of(alloc, batches)?;
-    apply_parts(rt, alloc, gate, cut, map, &ops, steps)
+    apply_parts(on, alloc, map, &ops, steps)
 }
 
 /// The map after the operations of the batches in order, changed in place where it has no other owner.
 pub(crate) fn applied<R: Threads + Sync, G: Gate>(
-    rt: &R,
+    on: On<R, G>,
     alloc: Global,
-    gate: &G,
-    cut: Cut,
     map: ServedMap,
     batches: &[Batch<Op>],
 ) -> Result<ServedMap, NoMemory>
     ensures { IfOk result (λ changed. changed.entries ≡ after step map.entries batches.now) }
 {
-    applied_counted::<R, G, Brand>(rt, alloc, gate, cut, map, batches, Blank::new(1))
+    applied_counted::<R, G, Brand>(on, alloc, map, batches, Blank::new(1))
 }
 
 /// As `applied`, with the steps counted.
 fn applied_counted<R: Threads + Sync, G: Gate, C: Ledger>(
-    rt: &R,
+    on: On<R, G>,
     alloc: Global,
-    gate: &G,
-    cut: Cut,
     map: ServedMap,
     batches: &[Batch<Op>],
     blank: Blank,
 ) -> Result<ServedMap, NoMemory>
-    requires name { blank.name ≡ C.name }
-    requires parts { blank.parts ≡ C.parts }
-    requires some { 0 < blank.parts }
+    requires { IsFresh C.name C.parts blank }
     ensures { IfOk result (λ changed. changed.entries ≡ after step map.entries batches.now) }
 {
     let mut steps = Steps::<C>::start(blank);
@@ -188,7 +173,7 @@ fn applied_counted<R: Threads + Sync, G: Gate, C: Ledger>(
     if are_few(batches) {
         apply_each(alloc, &mut changed, batches, &mut steps)?;
     } else {
-        apply_many(rt, alloc, gate, cut, &mut changed, batches, &mut steps)?;
+        apply_many(on, alloc, &mut changed, batches, &mut steps)?;
     }
     Ok(changed)
 }

@@ -1,8 +1,9 @@
 //! Outcomes of few keys, done one by one in place.
-ghost use Rattle.std.specs.Prelude.{◌≡◌, ◌<◌, [], ◌∷◌, IfOk};
+ghost use Rattle.std.specs.Prelude.{[], ◌∷◌, IfOk};
 ghost use Rattle.std.specs.Ordering.{nat_cmp};
 ghost use Rattle.map_model.specs.Entries.{IsIncreasing};
 ghost use Rattle.op_runs.specs.Runs.{IsChangedBy};
+ghost use Rattle.aug_monoid.specs.Fresh.{IsFresh};
 
 use crate::applying::ServedMap;
 use aug_monoid::{NoMemory, SatSum, Steps};
@@ -37,9 +38,7 @@ fn change_keys<C: Ledger>(
     outcomes: &[(u64, Outcome)],
     blank: Blank,
 ) -> Result<(), NoMemory>
-    requires name { blank.name ≡ C.name }
-    requires parts { blank.parts ≡ C.parts }
-    requires some { 0 < blank.parts }
+    requires fresh { IsFresh C.name C.parts blank }
     requires rise { IsIncreasing nat_cmp outcomes.now }
     ensures { IfOk result (λ _. IsChangedBy outcomes.now map.old.entries map.new.entries) }
 {

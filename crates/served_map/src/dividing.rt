@@ -12,7 +12,7 @@ use crate::changing::with_few;
 use crate::joining::{join_around, sides_of};
 use crate::merging::made_anew;
 use aug_monoid::NoMemory;
-use fork_join::{Cut, Divide, Gate, Opened, divide};
+use fork_join::{Divide, Gate, On, Opened, divide};
 use op_runs::Outcome;
 use std::alloc::Global;
 use std::marker::Sync;
@@ -145,15 +145,13 @@ impl<'a> Divide<(ServedMap, &'a [(u64, Outcome)]), Option<(u64, u64)>, ServedMap
 /// part with few entries for each key, and not too many, is made anew from one list, in one pass over both; few keys for many
 /// entries are done one by one in place. O(k * log(n / k + 1)) for k keys and a map of n entries.
 pub(crate) fn with_outcomes<R: Threads + Sync, G: Gate>(
-    rt: &R,
+    on: On<R, G>,
     alloc: Global,
-    gate: &G,
-    cut: Cut,
     map: ServedMap,
     outcomes: &[(u64, Outcome)],
 ) -> Result<ServedMap, NoMemory>
     requires { IsIncreasing nat_cmp outcomes.now }
     ensures { IfOk result (λ changed. IsChangedBy outcomes.now map.entries changed.entries) }
 {
-    divide(rt, alloc, gate, cut, &Changing, (map, outcomes))
+    divide(on, alloc, &Changing, (map, outcomes))
 }

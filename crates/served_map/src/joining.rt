@@ -1,8 +1,9 @@
 //! Maps cut at a key, and joined, with counters of their own.
-ghost use Rattle.std.specs.Prelude.{◌≡◌, ◌<◌, ◌∷◌, ◌++◌, IfOk};
+ghost use Rattle.std.specs.Prelude.{◌≡◌, ◌∷◌, ◌++◌, IfOk};
 ghost use Rattle.std.specs.List.{cons_option};
 ghost use Rattle.std.specs.Ordering.{nat_cmp};
 ghost use Rattle.map_model.specs.Entries.{IsIncreasing, above, below, lookup};
+ghost use Rattle.aug_monoid.specs.Fresh.{IsFresh};
 
 use crate::applying::ServedMap;
 use aug_monoid::{NoMemory, Steps};
@@ -33,9 +34,7 @@ fn sides_counted<C: Ledger>(
     key: u64,
     blank: Blank,
 ) -> Result<Sides, NoMemory>
-    requires name { blank.name ≡ C.name }
-    requires parts { blank.parts ≡ C.parts }
-    requires some { 0 < blank.parts }
+    requires { IsFresh C.name C.parts blank }
     ensures below { IfOk result (λ sides. sides.below.entries ≡ below nat_cmp map.now.entries key) }
     ensures found { IfOk result (λ sides. sides.found ≡ lookup nat_cmp map.now.entries key) }
     ensures above { IfOk result (λ sides. sides.above.entries ≡ above nat_cmp map.now.entries key) }
@@ -75,9 +74,7 @@ fn joined<C: Ledger>(
     blank: Blank,
 ) -> Result<ServedMap, NoMemory>
     requires increasing { IsIncreasing nat_cmp (left.now.entries ++ (key, val) ∷ right.now.entries) }
-    requires name { blank.name ≡ C.name }
-    requires parts { blank.parts ≡ C.parts }
-    requires some { 0 < blank.parts }
+    requires fresh { IsFresh C.name C.parts blank }
     ensures { IfOk result (λ map. map.entries ≡ left.now.entries ++ (key, val) ∷ right.now.entries) }
 {
     let mut steps = Steps::<C>::start(blank);
@@ -93,9 +90,7 @@ fn appended<C: Ledger>(
     blank: Blank,
 ) -> Result<ServedMap, NoMemory>
     requires increasing { IsIncreasing nat_cmp (left.now.entries ++ right.now.entries) }
-    requires name { blank.name ≡ C.name }
-    requires parts { blank.parts ≡ C.parts }
-    requires some { 0 < blank.parts }
+    requires fresh { IsFresh C.name C.parts blank }
     ensures { IfOk result (λ map. map.entries ≡ left.now.entries ++ right.now.entries) }
 {
     let mut steps = Steps::<C>::start(blank);

@@ -6,7 +6,7 @@ ghost use Rattle.versions.specs.History.{after};
 use crate::bulk::applied;
 use aug_map::PlainMap;
 use aug_monoid::{NoMemory, Share, SumMax};
-use fork_join::{Cut, FreeGate, Gate};
+use fork_join::{FreeGate, Gate, On};
 use op_runs::Op;
 use std::alloc::Global;
 use std::marker::{Model, Sync};
@@ -72,40 +72,36 @@ impl State for Served {
     /// O(n * log n + k * log(m / k + 1)). Few operations are applied one by one, and so is each wipe, in O(log m).
     fn change<R: Threads + Sync>(
         &self,
-        rt: &R,
+        on: On<R, FreeGate>,
         alloc: Global,
-        cut: Cut,
         batches: &[Batch<Op>],
     ) -> Result<Served, NoMemory> {
-        change_by(rt, alloc, &FreeGate, cut, self, batches)
+        change_by(on, alloc, self, batches)
     }
 
     /// As `change`. Each block and node of the map that has no other owner is changed in place.
     fn changed<R: Threads + Sync>(
         self,
-        rt: &R,
+        on: On<R, FreeGate>,
         alloc: Global,
-        cut: Cut,
         batches: &[Batch<Op>],
     ) -> Result<Served, NoMemory> {
         let Served { map } = self;
-        let map = applied(rt, alloc, &FreeGate, cut, map, batches)?;
+        let map = applied(on, alloc, map, batches)?;
         Ok(Served { map })
     }
 }
 
 /// What `change` answers. Its forks enter the gate.
 pub fn change_by<R: Threads + Sync, G: Gate>(
-    rt: &R,
+    on: On<R, G>,
     alloc: Global,
-    gate: &G,
-    cut: Cut,
     served: &Served,
     batches: &[Batch<Op>],
 ) -> Result<Served, NoMemory>
     ensures { IfOk result (λ state. state ≡ after step served.now batches.now) }
 {
     let map = served.map.share(alloc)?;
-    let map = applied(rt, alloc, gate, cut, map, batches)?;
+    let map = applied(on, alloc, map, batches)?;
     Ok(Served { map })
 }

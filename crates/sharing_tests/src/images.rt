@@ -1,9 +1,9 @@
 //! How many images are taken for a range.
+ghost use Rattle.map_model.specs.Balance.{IsBlockSize};
 ghost use Rattle.std.specs.Prelude.{max, refl};
 ghost use Rattle.std.proofs.Common.{arith};
-ghost use Rattle.map_model.specs.Balance.{IsBlockSize};
 
-use aug_map::{Map, MapOver};
+use aug_map::Map;
 use aug_monoid::{Leaf, NoMemory, Project, SumMax, Totals};
 use leaf_blocks::PlainLeaf;
 use std::alloc::Global;
@@ -60,7 +60,7 @@ fn taken<R: Abort, L: Leaf<u64, u64>, const B: usize>(
     requires { IsBlockSize B }
 {
     let pairs = entries(rt, alloc);
-    let map: Map<SumMax<u64>, L, B> = MapOver::build_alone(alloc, &pairs).expect(rt, "memory");
+    let map: Map<SumMax<u64>, L, B> = Map::build_alone(alloc, &pairs).expect(rt, "memory");
     let how = Zeros {
         taken: AtomicU64::new(0),
     };

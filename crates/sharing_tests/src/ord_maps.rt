@@ -12,11 +12,11 @@ type Tracking<'a> = OrdMap<Nothing<u64, Tracked<'a>>>;
 const ENTRIES: u64 = 3135;
 
 /// Sets each of the first even keys.
-fn insert_each<'a, R: Abort>(rt: &R, alloc: Global, map: &mut Tracking<'a>, shares: &'a Shares) {
+fn put_each<'a, R: Abort>(rt: &R, alloc: Global, map: &mut Tracking<'a>, shares: &'a Shares) {
     for half in 0..ENTRIES {
         let val = Tracked::new(0, shares);
-        map.insert(alloc, half.saturating_mul(2), val)
-            .expect(rt, "insertion");
+        map.put(alloc, half.saturating_mul(2), val)
+            .expect(rt, "put");
     }
 }
 
@@ -26,9 +26,9 @@ fn move_first<'a, R: Abort>(rt: &R, alloc: Global, map: &mut Tracking<'a>, share
         if half.is_multiple_of(49) {
             let even = half.saturating_mul(2);
             let val = Tracked::new(half, shares);
-            map.insert(alloc, even.saturating_add(1), val)
-                .expect(rt, "insertion");
-            map.remove(alloc, &even).expect(rt, "removal");
+            map.put(alloc, even.saturating_add(1), val)
+                .expect(rt, "put");
+            map.del(alloc, &even).expect(rt, "removal");
         }
     }
 }
@@ -40,13 +40,13 @@ fn changed<R: Abort>(rt: &R, alloc: Global) -> (u64, u64) {
     let mut map: Tracking<'_> = OrdMap::from_pairs(alloc, &entries).expect(rt, "memory");
     shares.refuse();
     shares.take();
-    insert_each(rt, alloc, &mut map, &shares);
+    put_each(rt, alloc, &mut map, &shares);
     move_first(rt, alloc, &mut map, &shares);
     (map.len(), shares.take())
 }
 
 // A change by a copy would share values, and be refused.
 #[test]
-fn insertions_and_removals_share_no_value(rt: HostRuntime) {
+fn puts_and_removals_share_no_value(rt: HostRuntime) {
     assert_eq!(rt; changed(&rt, rt.alloc()), (ENTRIES, 0));
 }

@@ -1,9 +1,8 @@
 //! How many values are shared where keys are set to what their old values and new ones make.
-ghost use Rattle.std.specs.Prelude.{◌≡◌, ◌<◌};
-ghost use Rattle.map_model.specs.Balance.{IsBlockSize};
+ghost use Rattle.aug_monoid.specs.Fresh.{IsFresh};
 
 use crate::tracked::{Shares, Tracked, tracked_evens};
-use aug_map::{Map, MapOver};
+use aug_map::Map;
 use aug_monoid::{Nothing, Second, Steps};
 use leaf_blocks::PlainLeaf;
 use std::alloc::Global;
@@ -19,13 +18,12 @@ fn shared_in<R: Abort, const B: usize, C: Ledger>(
     rt: &R,
     alloc: Global,
     steps: &mut Steps<C>,
-) -> u64
-    requires size { IsBlockSize B }
-{
+) -> u64 {
     let shares = Shares::new();
     let entries = tracked_evens(rt, alloc, ENTRIES, &shares);
-    let mut map: Map<Nothing<u64, Tracked<'_>>, PlainLeaf<u64, Tracked<'_>>, B> =
-        MapOver::build_alone(alloc, &entries).expect(rt, "memory");
+    let mut map: Map<Nothing<u64, Tracked<'_>>, PlainLeaf<u64, Tracked<'_>>, B> = Map::build_alone(
+        alloc, &entries,
+    ).expect(rt, "memory");
     shares.take();
     for half in 0..ENTRIES {
         let val = Tracked::new(0, &shares);
@@ -37,9 +35,7 @@ fn shared_in<R: Abort, const B: usize, C: Ledger>(
 
 /// The same for blocks of at least 1, 2 and 32 entries.
 fn shared_counted<R: Abort, C: Ledger>(rt: &R, alloc: Global, blank: Blank) -> [u64; 3]
-    requires name { blank.name ≡ C.name }
-    requires parts { blank.parts ≡ C.parts }
-    requires some { 0 < blank.parts }
+    requires { IsFresh C.name C.parts blank }
 {
     let mut steps = Steps::<C>::start(blank);
     let one = shared_in::<R, 1, C>(rt, alloc, &mut steps);

@@ -4,10 +4,9 @@
 //! copied where somebody does: a copy of the map that was taken before stays as it was. A call refuses only for want of
 //! memory, and then the map is as it was.
 //!
-//! It stands on `tree_entry`, `tree_shape` and `balance`; a `ShapeMut` is a shape whose leaves are changed in place. `tree_changes`
-//! has these calls over three parameters, and goes when the crates above it have moved here.
+//! It stands on `tree_entry`, `tree_shape` and `balance`; a `ShapeMut` is a shape whose leaves are changed in place.
 //!
-//! Tests: `shape_tests`. Wrong bodies: none yet; those of `tree_changes` move here.
+//! Tests: `tree_tests`. Wrong bodies: here.
 #![tactic(auto)]
 
 mod blocks;

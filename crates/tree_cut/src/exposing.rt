@@ -2,6 +2,7 @@
 ghost use Rattle.std.specs.Prelude.{◌≡◌, ◌+◌, ◌*◌, ◌<◌, ◌≤◌, ◌↔◌, [], ◌∷◌, ◌++◌, max, IfOk, IfSome, IsNone, length};
 ghost use Rattle.map_model.specs.Balance.{IsBalanced, weight};
 ghost use Rattle.map_model.specs.Entries.{IsIncreasing};
+ghost use Rattle.aug_monoid.specs.Fresh.{IsFresh};
 
 use aug_monoid::{Leaf, NoMemory, Share, Steps, share_entry};
 use std::alloc::Global;
@@ -73,9 +74,7 @@ fn halves_of<M: Shape, C: Ledger>(
     leaf: &M::Leaf,
     blank: Blank,
 ) -> Result<Exposed<M>, NoMemory>
-    requires name { blank.name ≡ C.name }
-    requires parts { blank.parts ≡ C.parts }
-    requires counts { 0 < blank.parts }
+    requires fresh { IsFresh C.name C.parts blank }
     requires increasing { IsIncreasing M.Key.cmp (M.Leaf.entries leaf.now) }
     requires some { 0 < length (M.Leaf.entries leaf.now) }
     requires short { length (M.Leaf.entries leaf.now) ≤ 2 * M.BLOCK }

@@ -3,10 +3,9 @@
 //! A map is a `Tree` of `tree_shape`. No call changes its arguments, and each answer shares what it can with them. A call
 //! refuses only for want of memory.
 //!
-//! It stands on `tree_join` and `tree_shape`. `tree_split` has these calls over three parameters, and goes when the crates above
-//! it have moved here.
+//! It stands on `tree_join` and `tree_shape`.
 //!
-//! Tests: `shape_tests`. Wrong bodies: none here; `aug_map` will state these clauses again.
+//! Tests: `tree_tests`. Wrong bodies: none here; `aug_map` will state these clauses again.
 #![tactic(auto)]
 
 mod exposing;

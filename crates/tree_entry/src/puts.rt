@@ -1,6 +1,7 @@
 //! A key set to a value.
 ghost use Rattle.std.specs.Prelude.{◌≡◌, ◌+◌, ◌*◌, ◌<◌, ◌≤◌, ◌↔◌, [], ◌∷◌, IfOk, IsSome, IsTrue, length};
 ghost use Rattle.map_model.specs.Entries.{IsIncreasing, below, lookup, set};
+ghost use Rattle.aug_monoid.specs.Fresh.{IsFresh};
 
 use crate::leaves::{one_entry, put_in_leaf};
 use crate::sides::{with_left_side, with_right_side};
@@ -26,9 +27,7 @@ fn single_counted<M: Shape, C: Ledger>(
     val: M::Val,
     blank: Blank,
 ) -> Result<Tree<M>, NoMemory>
-    requires name { blank.name ≡ C.name }
-    requires parts { blank.parts ≡ C.parts }
-    requires some { 0 < blank.parts }
+    requires { IsFresh C.name C.parts blank }
     ensures entries { IfOk result (λ tree. tree.entries ≡ (key, val) ∷ []) }
 {
     let mut steps = Steps::<C>::start(blank);

@@ -4,10 +4,9 @@
 //! only for want of memory. Trees stay weight-balanced with the parameter 1/4, as in just-join trees: the heavy side is opened
 //! down to a part that the light side balances, linked there, and turned on the way up.
 //!
-//! It stands on `tree_shape` and `balance`. `join_core` has these calls over three parameters, and goes when the crates above it
-//! have moved here.
+//! It stands on `tree_shape` and `balance`.
 //!
-//! Tests: `shape_tests`. Wrong bodies: none here; the crates above state these clauses again.
+//! Tests: `tree_tests`. Wrong bodies: none here; the crates above state these clauses again.
 #![tactic(auto)]
 
 mod ends;

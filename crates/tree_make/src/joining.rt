@@ -1,7 +1,8 @@
 //! Trees of two trees, and of an entry between them.
-ghost use Rattle.std.specs.Prelude.{◌≡◌, ◌<◌, ◌∷◌, ◌++◌, IfOk};
+ghost use Rattle.std.specs.Prelude.{◌≡◌, ◌∷◌, ◌++◌, IfOk};
 ghost use Rattle.std.specs.List.{cons_option};
 ghost use Rattle.map_model.specs.Entries.{IsIncreasing};
+ghost use Rattle.aug_monoid.specs.Fresh.{IsFresh};
 
 use aug_monoid::{NoMemory, Steps};
 use std::alloc::Global;
@@ -31,9 +32,7 @@ fn joined_counted<M: Shape, C: Ledger>(
     blank: Blank,
 ) -> Result<Tree<M>, NoMemory>
     requires increasing { IsIncreasing M.Key.cmp (left.entries ++ middle ∷ right.entries) }
-    requires name { blank.name ≡ C.name }
-    requires parts { blank.parts ≡ C.parts }
-    requires some { 0 < blank.parts }
+    requires fresh { IsFresh C.name C.parts blank }
     ensures { IfOk result (λ tree. tree.entries ≡ left.entries ++ middle ∷ right.entries) }
 {
     let mut steps = Steps::<C>::start(blank);
@@ -56,9 +55,7 @@ fn appended_counted<M: Shape, C: Ledger>(
     blank: Blank,
 ) -> Result<Tree<M>, NoMemory>
     requires increasing { IsIncreasing M.Key.cmp (left.now.entries ++ right.now.entries) }
-    requires name { blank.name ≡ C.name }
-    requires parts { blank.parts ≡ C.parts }
-    requires some { 0 < blank.parts }
+    requires fresh { IsFresh C.name C.parts blank }
     ensures { IfOk result (λ tree. tree.entries ≡ left.now.entries ++ right.now.entries) }
 {
     let mut steps = Steps::<C>::start(blank);

@@ -4,10 +4,9 @@
 //! `tree_of` takes its entries from a vector and moves them; `tree_of_slice` shares them. O(n) for n entries, and O(log n) for a
 //! join. A call refuses only for want of memory.
 //!
-//! It stands on `tree_join` and `tree_shape`. `tree_making` has these calls over three parameters, and goes when the crates above
-//! it have moved here.
+//! It stands on `tree_join` and `tree_shape`.
 //!
-//! Tests: `shape_tests`. Wrong bodies: none here; `bulk_ops` and `batch_ops` will prove theirs by these clauses.
+//! Tests: `tree_tests`. Wrong bodies: none here; `aug_map` proves its by these clauses.
 #![tactic(auto)]
 
 mod joining;

@@ -1,6 +1,7 @@
 //! Trees of entries, and the entries of trees.
 ghost use Rattle.std.specs.Prelude.{◌≡◌, ◌<◌, ◌^◌, IfOk, length};
 ghost use Rattle.map_model.specs.Entries.{IsIncreasing};
+ghost use Rattle.aug_monoid.specs.Fresh.{IsFresh};
 
 use aug_monoid::{NoMemory, Steps};
 use std::alloc::Global;
@@ -38,9 +39,7 @@ fn tree_of_counted<M: Shape, C: Ledger>(
 ) -> Result<Tree<M>, NoMemory>
     requires increasing { IsIncreasing M.Key.cmp entries.items }
     requires fits { length entries.items < 2 ^ 60 }
-    requires name { blank.name ≡ C.name }
-    requires parts { blank.parts ≡ C.parts }
-    requires some { 0 < blank.parts }
+    requires fresh { IsFresh C.name C.parts blank }
     ensures { IfOk result (λ tree. tree.entries ≡ entries.items) }
 {
     let mut steps = Steps::<C>::start(blank);
@@ -68,9 +67,7 @@ fn tree_of_slice_counted<M: Shape, C: Ledger>(
 ) -> Result<Tree<M>, NoMemory>
     requires increasing { IsIncreasing M.Key.cmp entries.now }
     requires fits { length entries.now < 2 ^ 60 }
-    requires name { blank.name ≡ C.name }
-    requires parts { blank.parts ≡ C.parts }
-    requires some { 0 < blank.parts }
+    requires fresh { IsFresh C.name C.parts blank }
     ensures { IfOk result (λ tree. tree.entries ≡ entries.now) }
 {
     let mut steps = Steps::<C>::start(blank);

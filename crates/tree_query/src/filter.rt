@@ -1,7 +1,8 @@
 //! Filters by the augmented values.
-ghost use Rattle.std.specs.Prelude.{◌≡◌, ◌+◌, ◌*◌, ◌<◌, ◌≤◌, [], ◌∷◌, ◌++◌, length, true, if◌then◌else◌, IfOk};
+ghost use Rattle.std.specs.Prelude.{◌≡◌, ◌+◌, ◌*◌, ◌≤◌, [], ◌∷◌, ◌++◌, length, true, if◌then◌else◌, IfOk};
 ghost use Rattle.map_model.specs.Entries.{AllAbove, AllBelow, IsIncreasing};
 ghost use Rattle.map_model.specs.Fold.{aug_filter};
+ghost use Rattle.aug_monoid.specs.Fresh.{IsFresh};
 
 use crate::passing::{entry_passes, fails_whole};
 use aug_monoid::{AugTest, Augment, Leaf, NoMemory, Share, Steps};
@@ -30,9 +31,7 @@ fn filter_counted<M: Shape, T: AugTest<M::Augment>, C: Ledger>(
     test: &T,
     blank: Blank,
 ) -> Result<Tree<M>, NoMemory>
-    requires name { blank.name ≡ C.name }
-    requires parts { blank.parts ≡ C.parts }
-    requires some { 0 < blank.parts }
+    requires { IsFresh C.name C.parts blank }
     ensures { IfOk result (λ kept. kept.entries ≡ aug_filter M.Augment.base_of (T.admits test.now) tree.now.entries) }
 {
     let mut steps = Steps::<C>::start(blank);

@@ -3,8 +3,7 @@
 //! A fold of a range takes the stored folds of the trees that lie in it whole, so its cost goes with the height of the tree
 //! and the size of a block, and not with the number of entries in the range.
 //!
-//! It stands on `tree_join` and `tree_shape`. `aug_query` has these calls over three parameters, and goes when the crates above it
-//! have moved here.
+//! It stands on `tree_join` and `tree_shape`.
 //!
 //! Tests: none yet; those of `map_tests` and `work_tests` move here. Wrong bodies: none here; `aug_map` will state these clauses
 //! again.

@@ -1,8 +1,9 @@
 //! Parts of maps.
-ghost use Rattle.std.specs.Prelude.{◌≡◌, ◌*◌, ◌<◌, ◌≤◌, IfOk, length};
+ghost use Rattle.std.specs.Prelude.{◌≡◌, ◌*◌, ◌≤◌, IfOk, length};
 ghost use Rattle.map_model.specs.Entries.{IsIncreasing, above, below};
 ghost use Rattle.map_model.specs.Parts.{right_of, slice};
 ghost use Rattle.tree_query.specs.Within.{within};
+ghost use Rattle.aug_monoid.specs.Fresh.{IsFresh};
 
 use crate::range::{KeyRange, Span};
 use aug_monoid::{Key, Leaf, NoMemory, Share, Steps};
@@ -59,9 +60,7 @@ fn keep<M: Shape, C: Ledger>(
     span: Span<'_, M>,
     blank: Blank,
 ) -> Result<Tree<M>, NoMemory>
-    requires name { blank.name ≡ C.name }
-    requires parts { blank.parts ≡ C.parts }
-    requires some { 0 < blank.parts }
+    requires { IsFresh C.name C.parts blank }
     ensures { IfOk result (λ part. part.entries ≡ within M.Key.cmp span.entry.range span.entry.tree.now.entries) }
 {
     let mut steps = Steps::<C>::start(blank);

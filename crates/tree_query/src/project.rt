@@ -1,8 +1,9 @@
 //! Images of the folds of ranges.
-ghost use Rattle.std.specs.Prelude.{◌≡◌, ◌<◌, IfOk};
+ghost use Rattle.std.specs.Prelude.{◌≡◌, IfOk};
 ghost use Rattle.map_model.specs.Entries.{IsIncreasing};
 ghost use Rattle.map_model.specs.Fold.{fold_of, project};
 ghost use Rattle.tree_query.specs.Within.{within};
+ghost use Rattle.aug_monoid.specs.Fresh.{IsFresh};
 
 use crate::range::{KeyRange, Span};
 use aug_monoid::{Augment, Leaf, NoMemory, Project, Steps};
@@ -34,9 +35,7 @@ fn project_range<M: Shape, P: Project<M::Augment>, C: Ledger>(
     how: &P,
     blank: Blank,
 ) -> Result<P::Out, NoMemory>
-    requires name { blank.name ≡ C.name }
-    requires parts { blank.parts ≡ C.parts }
-    requires some { 0 < blank.parts }
+    requires { IsFresh C.name C.parts blank }
     ensures { IfOk result (λ out. out ≡ project M.Key.cmp M.Augment.base_of M.Augment.unit_of M.Augment.combined (P.image_of how.now) tree.now.entries lo.now hi.now) }
 {
     let mut steps = Steps::<C>::start(blank);

@@ -8,10 +8,9 @@
 //! fold of its entries, so a fold of a whole tree takes no time. Nodes and blocks have several owners, and one that has two is never
 //! changed.
 //!
-//! It stands on `aug_monoid`, `balance` and `map_model`. `tree_base` has these trees over three parameters, and goes when the crates
-//! above it have moved here.
+//! It stands on `aug_monoid`, `balance` and `map_model`.
 //!
-//! Tests: `shape_tests`. Wrong bodies: none here; the crates above state these clauses again.
+//! Tests: `tree_tests`. Wrong bodies: none here; the crates above state these clauses again.
 #![tactic(auto)]
 
 mod build;

@@ -1,12 +1,12 @@
 //! What changes of one entry take.
-ghost use Rattle.std.specs.Prelude.{◌≡◌, ◌<◌};
 ghost use Rattle.map_model.specs.Balance.{IsBlockSize};
+ghost use Rattle.aug_monoid.specs.Fresh.{IsFresh};
 
 use crate::counted::Counted;
 use crate::sums::Sums;
 use crate::work::{Taken, Work};
-use aug_map::{Map, MapOver};
-use aug_monoid::{Augment, LeafMut, Steps};
+use aug_map::Map;
+use aug_monoid::{LeafMut, Steps};
 use leaf_blocks::PlainLeaf;
 use std::alloc::Global;
 use std::marker::Brand;
@@ -20,17 +20,13 @@ pub(crate) type Block<'a> = PlainLeaf<Counted<'a>, u64>;
 pub(crate) const ENTRIES: u64 = 4096;
 
 /// The map of the even numbers below `2 * ENTRIES`, each with itself as value, put in place.
-pub(crate) fn evens<
-    'a,
-    R: Abort,
-    A: Augment<Key = Counted<'a>, Val = u64>,
-    L: LeafMut<Counted<'a>, u64>,
-    const B: usize,
-    C: Ledger,
->(rt: &R, alloc: Global, work: &'a Work, steps: &mut Steps<C>) -> Map<A, L, B>
-    requires { IsBlockSize B }
-{
-    let mut map: Map<A, L, B> = MapOver::empty();
+pub(crate) fn evens<'a, R: Abort, L: LeafMut<Counted<'a>, u64>, const B: usize, C: Ledger>(
+    rt: &R,
+    alloc: Global,
+    work: &'a Work,
+    steps: &mut Steps<C>,
+) -> Map<Sums<'a>, L, B> {
+    let mut map: Map<Sums<'a>, L, B> = Map::empty();
     for half in 0..ENTRIES {
         map.put_mut(alloc, Counted::new(2 * half, work), 2 * half, steps)
             .expect(rt, "put");
@@ -39,14 +35,13 @@ pub(crate) fn evens<
 }
 
 /// The most that a put or a removal takes by a copy, at odd and at even keys.
-fn most_by_copy<
-    'a,
-    R: Abort,
-    A: Augment<Key = Counted<'a>, Val = u64>,
-    L: LeafMut<Counted<'a>, u64>,
-    const B: usize,
-    C: Ledger,
->(rt: &R, alloc: Global, map: &Map<A, L, B>, work: &'a Work, steps: &mut Steps<C>) -> Taken {
+fn most_by_copy<'a, R: Abort, L: LeafMut<Counted<'a>, u64>, const B: usize, C: Ledger>(
+    rt: &R,
+    alloc: Global,
+    map: &Map<Sums<'a>, L, B>,
+    work: &'a Work,
+    steps: &mut Steps<C>,
+) -> Taken {
     let mut most = Taken {
         compared: 0,
         shared: 0,
@@ -65,17 +60,15 @@ fn most_by_copy<
 }
 
 /// Whether changes by a copy keep within their bounds, and what `ENTRIES` puts in place of keys that are there share.
-fn changes_in<
-    'a,
-    R: Abort,
-    A: Augment<Key = Counted<'a>, Val = u64>,
-    L: LeafMut<Counted<'a>, u64>,
-    const B: usize,
-    C: Ledger,
->(rt: &R, alloc: Global, work: &'a Work, steps: &mut Steps<C>) -> (bool, u64)
-    requires size { IsBlockSize B }
+fn changes_in<'a, R: Abort, L: LeafMut<Counted<'a>, u64>, const B: usize, C: Ledger>(
+    rt: &R,
+    alloc: Global,
+    work: &'a Work,
+    steps: &mut Steps<C>,
+) -> (bool, u64)
+    requires { IsBlockSize B }
 {
-    let mut map = evens::<R, A, L, B, C>(rt, alloc, work, steps);
+    let mut map = evens::<R, L, B, C>(rt, alloc, work, steps);
     let most = most_by_copy(rt, alloc, &map, work, steps);
     let levels = map.height() as u64 + 1;
     let block = B as u64 + 2;
@@ -90,27 +83,24 @@ fn changes_in<
 }
 
 /// The same for blocks of 1, 2 and 32 entries.
-fn changes_at_sizes<
-    'a,
-    R: Abort,
-    A: Augment<Key = Counted<'a>, Val = u64>,
-    L: LeafMut<Counted<'a>, u64>,
-    C: Ledger,
->(rt: &R, alloc: Global, work: &'a Work, steps: &mut Steps<C>) -> [(bool, u64); 3] {
-    let one = changes_in::<R, A, L, 1, C>(rt, alloc, work, steps);
-    let two = changes_in::<R, A, L, 2, C>(rt, alloc, work, steps);
-    let many = changes_in::<R, A, L, 32, C>(rt, alloc, work, steps);
+fn changes_at_sizes<'a, R: Abort, L: LeafMut<Counted<'a>, u64>, C: Ledger>(
+    rt: &R,
+    alloc: Global,
+    work: &'a Work,
+    steps: &mut Steps<C>,
+) -> [(bool, u64); 3] {
+    let one = changes_in::<R, L, 1, C>(rt, alloc, work, steps);
+    let two = changes_in::<R, L, 2, C>(rt, alloc, work, steps);
+    let many = changes_in::<R, L, 32, C>(rt, alloc, work, steps);
     [one, two, many]
 }
 
 fn changes_counted<R: Abort, C: Ledger>(rt: &R, alloc: Global, blank: Blank) -> [(bool, u64); 3]
-    requires name { blank.name ≡ C.name }
-    requires parts { blank.parts ≡ C.parts }
-    requires some { 0 < blank.parts }
+    requires { IsFresh C.name C.parts blank }
 {
     let mut steps = Steps::<C>::start(blank);
     let work = Work::new();
-    changes_at_sizes::<R, Sums<'_>, Block<'_>, C>(rt, alloc, &work, &mut steps)
+    changes_at_sizes::<R, Block<'_>, C>(rt, alloc, &work, &mut steps)
 }
 
 fn changes<R: Abort>(rt: &R, alloc: Global) -> [(bool, u64); 3] {

@@ -1,9 +1,9 @@
 //! How many augmented values a filter looks at, and a search for the first that passes.
-ghost use Rattle.std.specs.Prelude.{◌≡◌, nat_le};
 ghost use Rattle.map_model.specs.Balance.{IsBlockSize};
+ghost use Rattle.std.specs.Prelude.{◌≡◌, nat_le};
 ghost use Rattle.work_tests.specs.Greatest.{either_passes};
 
-use aug_map::{Map, MapOver};
+use aug_map::Map;
 use aug_monoid::{AugTest, Leaf, SumMax, Totals};
 use leaf_blocks::PlainLeaf;
 use std::alloc::Global;
@@ -56,7 +56,7 @@ fn kept<R: Abort, L: Leaf<u64, u64>, const B: usize>(
     requires { IsBlockSize B }
 {
     let pairs = entries(rt, alloc);
-    let map: Map<SumMax<u64>, L, B> = MapOver::build_alone(alloc, &pairs).expect(rt, "memory");
+    let map: Map<SumMax<u64>, L, B> = Map::build_alone(alloc, &pairs).expect(rt, "memory");
     let test = AtLeast {
         least,
         looked: AtomicU64::new(0),
@@ -89,7 +89,7 @@ fn found<R: Abort, L: Leaf<u64, u64>, const B: usize>(
     requires { IsBlockSize B }
 {
     let pairs = entries_with_one(rt, alloc, special);
-    let map: Map<SumMax<u64>, L, B> = MapOver::build_alone(alloc, &pairs).expect(rt, "memory");
+    let map: Map<SumMax<u64>, L, B> = Map::build_alone(alloc, &pairs).expect(rt, "memory");
     let test = AtLeast {
         least: 9,
         looked: AtomicU64::new(0),

@@ -2,8 +2,8 @@
 ghost use Rattle.std.specs.Prelude.{◌≡◌, ◌+◌, ◌-◌, ◌^◌, ◌≤◌, min, true};
 ghost use Rattle.std.proofs.Common.{arith};
 
-use aug_map::{IntoEntries, Map, MapOver};
-use aug_monoid::{Augment, First, Leaf, NoMemory, Reduce, SumMax, SyncAugment, Test};
+use aug_map::{IntoEntries, Map};
+use aug_monoid::{First, Leaf, NoMemory, Reduce, SumMax, Test};
 use fork_join::{Cut, FreeGate};
 use leaf_blocks::PlainLeaf;
 use meeting::Meeting;
@@ -64,35 +64,35 @@ fn multiples<R: Abort>(rt: &R, alloc: Global, step: u64) -> Vec<(u64, u64)> {
     pairs
 }
 
-fn map_of<
-    R: Threads + Abort + Sync,
-    A: Augment<Key = u64, Val = u64> + SyncAugment,
-    L: Leaf<u64, u64> + Send + Sync,
->(rt: &R, alloc: Global, step: u64) -> Map<A, L, 32> {
+fn map_of<R: Threads + Abort + Sync, L: Leaf<u64, u64> + Send + Sync>(
+    rt: &R,
+    alloc: Global,
+    step: u64,
+) -> Map<SumMax<u64>, L, 32> {
     let pairs = multiples(rt, alloc, step);
-    MapOver::build(rt, alloc, &FreeGate, Cut::new(1, 1), &pairs).expect(rt, "memory")
+    Map::build(rt, alloc, &FreeGate, Cut::new(1, 1), &pairs).expect(rt, "memory")
 }
 
 /// The size of a map that is built, and whether its halves met.
-fn built<
-    R: Threads + Abort + Sync,
-    A: Augment<Key = u64, Val = u64> + SyncAugment,
-    L: Leaf<u64, u64> + Send + Sync,
->(rt: &R, alloc: Global) -> (u64, bool) {
+fn built<R: Threads + Abort + Sync, L: Leaf<u64, u64> + Send + Sync>(
+    rt: &R,
+    alloc: Global,
+) -> (u64, bool) {
     let pairs = multiples(rt, alloc, 2);
     let gate = Meeting::new();
-    let map: Map<A, L, 32> = MapOver::build(rt, alloc, &gate, Cut::new(2, 1), &pairs).expect(
+    let map: Map<SumMax<u64>, L, 32> = Map::build(rt, alloc, &gate, Cut::new(2, 1), &pairs).expect(
         rt, "memory",
     );
     (map.size(), gate.was_met())
 }
 
 /// A map that is given up.
-fn united_into<
-    R: Threads + Abort + Sync,
-    A: Augment<Key = u64, Val = u64> + SyncAugment,
-    L: IntoEntries<u64, u64> + Send + Sync,
->(rt: &R, alloc: Global, a: Map<A, L, 32>, b: &Map<A, L, 32>) -> (u64, bool) {
+fn united_into<R: Threads + Abort + Sync, L: IntoEntries<u64, u64> + Send + Sync>(
+    rt: &R,
+    alloc: Global,
+    a: Map<SumMax<u64>, L, 32>,
+    b: &Map<SumMax<u64>, L, 32>,
+) -> (u64, bool) {
     let list = b.to_vec(alloc).expect(rt, "memory");
     let _size = b.size(); // for the proof alone: keys rise
     let gate = Meeting::new();
@@ -102,11 +102,11 @@ fn united_into<
     (map.size(), gate.was_met())
 }
 
-fn intersected<R: Threads + Abort + Sync, A: SyncAugment, L: Leaf<A::Key, A::Val> + Send + Sync>(
+fn intersected<R: Threads + Abort + Sync, L: Leaf<u64, u64> + Send + Sync>(
     rt: &R,
     alloc: Global,
-    a: &Map<A, L, 32>,
-    b: &Map<A, L, 32>,
+    a: &Map<SumMax<u64>, L, 32>,
+    b: &Map<SumMax<u64>, L, 32>,
 ) -> (u64, bool) {
     let gate = Meeting::new();
     let map = a
@@ -115,11 +115,11 @@ fn intersected<R: Threads + Abort + Sync, A: SyncAugment, L: Leaf<A::Key, A::Val
     (map.size(), gate.was_met())
 }
 
-fn subtracted<R: Threads + Abort + Sync, A: SyncAugment, L: Leaf<A::Key, A::Val> + Send + Sync>(
+fn subtracted<R: Threads + Abort + Sync, L: Leaf<u64, u64> + Send + Sync>(
     rt: &R,
     alloc: Global,
-    a: &Map<A, L, 32>,
-    b: &Map<A, L, 32>,
+    a: &Map<SumMax<u64>, L, 32>,
+    b: &Map<SumMax<u64>, L, 32>,
 ) -> (u64, bool) {
     let gate = Meeting::new();
     let map = a
@@ -128,11 +128,11 @@ fn subtracted<R: Threads + Abort + Sync, A: SyncAugment, L: Leaf<A::Key, A::Val>
     (map.size(), gate.was_met())
 }
 
-fn filtered<
-    R: Threads + Abort + Sync,
-    A: Augment<Key = u64, Val = u64> + SyncAugment,
-    L: Leaf<u64, u64> + Send + Sync,
->(rt: &R, alloc: Global, a: &Map<A, L, 32>) -> (u64, bool) {
+fn filtered<R: Threads + Abort + Sync, L: Leaf<u64, u64> + Send + Sync>(
+    rt: &R,
+    alloc: Global,
+    a: &Map<SumMax<u64>, L, 32>,
+) -> (u64, bool) {
     let gate = Meeting::new();
     let map = a
         .filter(rt, alloc, &gate, Cut::new(2, 1), &Every)
@@ -140,11 +140,11 @@ fn filtered<
     (map.size(), gate.was_met())
 }
 
-fn reduced<
-    R: Threads + Abort + Sync,
-    A: Augment<Key = u64, Val = u64> + SyncAugment,
-    L: Leaf<u64, u64> + Send + Sync,
->(rt: &R, alloc: Global, a: &Map<A, L, 32>) -> (u64, bool) {
+fn reduced<R: Threads + Abort + Sync, L: Leaf<u64, u64> + Send + Sync>(
+    rt: &R,
+    alloc: Global,
+    a: &Map<SumMax<u64>, L, 32>,
+) -> (u64, bool) {
     let gate = Meeting::new();
     let count = a
         .map_reduce(rt, alloc, &gate, Cut::new(2, 1), &Every)
@@ -153,11 +153,12 @@ fn reduced<
 }
 
 /// Asserts that the halves of the calls on these maps meet.
-fn assert_halves_of<
-    R: Threads + Abort + Sync,
-    A: Augment<Key = u64, Val = u64> + SyncAugment,
-    L: Leaf<u64, u64> + Send + Sync,
->(rt: &R, alloc: Global, a: &Map<A, L, 32>, b: &Map<A, L, 32>) {
+fn assert_halves_of<R: Threads + Abort + Sync, L: Leaf<u64, u64> + Send + Sync>(
+    rt: &R,
+    alloc: Global,
+    a: &Map<SumMax<u64>, L, 32>,
+    b: &Map<SumMax<u64>, L, 32>,
+) {
     assert_eq!(rt; intersected(rt, alloc, a, b), (10_000, true));
     assert_eq!(rt; subtracted(rt, alloc, a, b), (20_000, true));
     assert_eq!(rt; filtered(rt, alloc, a), (30_000, true));
@@ -165,19 +166,18 @@ fn assert_halves_of<
 }
 
 /// Asserts that the halves of each call meet.
-fn assert_halves_meet<
-    R: Threads + Abort + Sync,
-    A: Augment<Key = u64, Val = u64> + SyncAugment,
-    L: IntoEntries<u64, u64> + Send + Sync,
->(rt: &R, alloc: Global) {
-    assert_eq!(rt; built::<R, A, L>(rt, alloc), (30_000, true));
-    let a = map_of::<R, A, L>(rt, alloc, 2);
-    let b = map_of::<R, A, L>(rt, alloc, 3);
+fn assert_halves_meet<R: Threads + Abort + Sync, L: IntoEntries<u64, u64> + Send + Sync>(
+    rt: &R,
+    alloc: Global,
+) {
+    assert_eq!(rt; built::<R, L>(rt, alloc), (30_000, true));
+    let a = map_of::<R, L>(rt, alloc, 2);
+    let b = map_of::<R, L>(rt, alloc, 3);
     assert_halves_of(rt, alloc, &a, &b);
     assert_eq!(rt; united_into(rt, alloc, a, &b), (40_000, true));
 }
 
 #[test]
 fn the_halves_of_each_call_meet(rt: HostRuntime) {
-    assert_halves_meet::<HostRuntime, SumMax<u64>, PlainLeaf<u64, u64>>(&rt, rt.alloc());
+    assert_halves_meet::<HostRuntime, PlainLeaf<u64, u64>>(&rt, rt.alloc());
 }

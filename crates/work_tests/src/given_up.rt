@@ -1,11 +1,11 @@
 //! What is moved of a map that is given up.
-ghost use Rattle.std.specs.Ordering.{nat_cmp};
 ghost use Rattle.map_model.specs.Balance.{IsBlockSize};
+ghost use Rattle.std.specs.Ordering.{nat_cmp};
 ghost use Rattle.map_model.specs.Entries.{IsIncreasing};
 
 use crate::changes::ENTRIES;
 use crate::tracked::{Shares, Tracked, TrackedMap, tracked_evens};
-use aug_map::MapOver;
+use aug_map::Map;
 use aug_monoid::{First, Share};
 use fork_join::{Cut, FreeGate};
 use std::alloc::Global;
@@ -26,7 +26,7 @@ fn few<'a, R: Abort>(rt: &R, alloc: Global, shares: &'a Shares) -> Vec<(u64, Tra
             .push((512 * place + 1, Tracked::new(place, shares)))
             .expect(rt, "memory");
     }
-    let map: TrackedMap<'a, 1> = MapOver::build_alone(alloc, &entries).expect(rt, "memory");
+    let map: TrackedMap<'a, 1> = Map::build_alone(alloc, &entries).expect(rt, "memory");
     let _size = map.size(); // for the proof alone: keys rise
     map.to_vec(alloc).expect(rt, "memory")
 }
@@ -36,17 +36,13 @@ fn many<'a, R: Abort, const B: usize>(
     rt: &R,
     alloc: Global,
     shares: &'a Shares,
-) -> TrackedMap<'a, B>
-    requires { IsBlockSize B }
-{
+) -> TrackedMap<'a, B> {
     let entries = tracked_evens(alloc, ENTRIES, shares).expect(rt, "memory");
-    MapOver::build_alone(alloc, &entries).expect(rt, "memory")
+    Map::build_alone(alloc, &entries).expect(rt, "memory")
 }
 
 /// The size of a union in threads, and how often it shares values of the map that is given up and of the list.
-fn moved<R: Threads + Abort + Sync, const B: usize>(rt: &R, alloc: Global) -> (u64, u64, u64)
-    requires { IsBlockSize B }
-{
+fn moved<R: Threads + Abort + Sync, const B: usize>(rt: &R, alloc: Global) -> (u64, u64, u64) {
     let ours = Shares::new();
     let theirs = Shares::new();
     let map = many::<R, B>(rt, alloc, &ours);
@@ -61,9 +57,7 @@ fn moved<R: Threads + Abort + Sync, const B: usize>(rt: &R, alloc: Global) -> (u
 }
 
 /// The same on one thread.
-fn moved_alone<R: Abort, const B: usize>(rt: &R, alloc: Global) -> (u64, u64, u64)
-    requires { IsBlockSize B }
-{
+fn moved_alone<R: Abort, const B: usize>(rt: &R, alloc: Global) -> (u64, u64, u64) {
     let ours = Shares::new();
     let theirs = Shares::new();
     let map = many::<R, B>(rt, alloc, &ours);
@@ -107,9 +101,7 @@ fn puts<'a, R: Abort>(rt: &R, alloc: Global, shares: &'a Shares) -> Vec<(u64, Tr
 }
 
 /// The size of a map after puts in threads, and how often they share values of the map that is given up.
-fn put_moved<R: Threads + Abort + Sync, const B: usize>(rt: &R, alloc: Global) -> (u64, u64)
-    requires { IsBlockSize B }
-{
+fn put_moved<R: Threads + Abort + Sync, const B: usize>(rt: &R, alloc: Global) -> (u64, u64) {
     let ours = Shares::new();
     let theirs = Shares::new();
     let map = many::<R, B>(rt, alloc, &ours);
@@ -122,9 +114,7 @@ fn put_moved<R: Threads + Abort + Sync, const B: usize>(rt: &R, alloc: Global) -
 }
 
 /// The same on one thread.
-fn put_moved_alone<R: Abort, const B: usize>(rt: &R, alloc: Global) -> (u64, u64)
-    requires { IsBlockSize B }
-{
+fn put_moved_alone<R: Abort, const B: usize>(rt: &R, alloc: Global) -> (u64, u64) {
     let ours = Shares::new();
     let theirs = Shares::new();
     let map = many::<R, B>(rt, alloc, &ours);
@@ -135,9 +125,7 @@ fn put_moved_alone<R: Abort, const B: usize>(rt: &R, alloc: Global) -> (u64, u64
 }
 
 /// Asserts that puts share no value of a map with one owner.
-fn assert_puts_move<R: Threads + Abort + Sync, const B: usize>(rt: &R, alloc: Global)
-    requires { IsBlockSize B }
-{
+fn assert_puts_move<R: Threads + Abort + Sync, const B: usize>(rt: &R, alloc: Global) {
     let wanted = (ENTRIES + FEW / 2, 0);
     assert_eq!(rt; put_moved::<R, B>(rt, alloc), wanted);
     assert_eq!(rt; put_moved_alone::<R, B>(rt, alloc), wanted);

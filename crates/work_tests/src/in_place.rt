@@ -1,9 +1,8 @@
 //! Changes in place of maps whose values refuse to be shared.
-ghost use Rattle.std.specs.Prelude.{◌≡◌, ◌<◌};
-ghost use Rattle.map_model.specs.Balance.{IsBlockSize};
+ghost use Rattle.aug_monoid.specs.Fresh.{IsFresh};
 
 use crate::tracked::{Shares, Tracked, TrackedMap, tracked_evens};
-use aug_map::MapOver;
+use aug_map::Map;
 use aug_monoid::Steps;
 use std::alloc::Global;
 use std::marker::Brand;
@@ -54,13 +53,11 @@ fn changed_in<R: Abort, const B: usize, C: Ledger>(
     alloc: Global,
     in_block: u64,
     steps: &mut Steps<C>,
-) -> (u64, u64)
-    requires size { IsBlockSize B }
-{
+) -> (u64, u64) {
     let shares = Shares::new();
     let count = in_block.saturating_mul(64).saturating_add(63);
     let entries = tracked_evens(alloc, count, &shares).expect(rt, "memory");
-    let mut map: TrackedMap<'_, B> = MapOver::build_alone(alloc, &entries).expect(rt, "memory");
+    let mut map: TrackedMap<'_, B> = Map::build_alone(alloc, &entries).expect(rt, "memory");
     shares.refuse();
     shares.take();
     set_each(rt, alloc, &mut map, count, &shares, steps);
@@ -78,9 +75,7 @@ fn changed_in<R: Abort, const B: usize, C: Ledger>(
 
 /// The same for blocks of at least 1, 2 and 32 entries, in which there is room for one more.
 fn changed_counted<R: Abort, C: Ledger>(rt: &R, alloc: Global, blank: Blank) -> [(u64, u64); 3]
-    requires name { blank.name ≡ C.name }
-    requires parts { blank.parts ≡ C.parts }
-    requires some { 0 < blank.parts }
+    requires { IsFresh C.name C.parts blank }
 {
     let mut steps = Steps::<C>::start(blank);
     let one = changed_in::<R, 1, C>(rt, alloc, 1, &mut steps);

@@ -4,7 +4,7 @@ use crate::changes::Block;
 use crate::counted::Counted;
 use crate::sums::Sums;
 use crate::work::Work;
-use aug_map::{Map, MapOver};
+use aug_map::Map;
 use entry_lists::cut_slice;
 use std::alloc::Global;
 use std::process::Abort;
@@ -17,7 +17,7 @@ fn numbers<'a, R: Abort>(rt: &R, alloc: Global, work: &'a Work) -> Map<Sums<'a>,
             .push((Counted::new(number, work), number))
             .expect(rt, "memory");
     }
-    MapOver::build_alone(alloc, &pairs).expect(rt, "memory")
+    Map::build_alone(alloc, &pairs).expect(rt, "memory")
 }
 
 /// How many keys are compared where they are cut at a key.

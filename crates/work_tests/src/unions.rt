@@ -1,13 +1,13 @@
 //! What unions with a small and with a narrow map take.
-ghost use Rattle.std.specs.Prelude.{◌≡◌, ◌<◌};
 ghost use Rattle.map_model.specs.Balance.{IsBlockSize};
+ghost use Rattle.aug_monoid.specs.Fresh.{IsFresh};
 
 use crate::changes::{Block, evens};
 use crate::counted::Counted;
 use crate::sums::Sums;
 use crate::work::Work;
-use aug_map::{Map, MapOver};
-use aug_monoid::{Augment, First, Leaf, LeafMut, Steps, SumMax, SyncAugment};
+use aug_map::Map;
+use aug_monoid::{First, Leaf, LeafMut, Steps, SumMax};
 use fork_join::{Cut, FreeGate, Gate};
 use leaf_blocks::PlainLeaf;
 use std::alloc::Global;
@@ -23,17 +23,13 @@ type Tally<'a, const B: usize> = Map<Sums<'a>, Block<'a>, B>;
 const FEW: u64 = 16;
 
 /// A map of `FEW` odd numbers, far from one another.
-fn few<
-    'a,
-    R: Abort,
-    A: Augment<Key = Counted<'a>, Val = u64>,
-    L: LeafMut<Counted<'a>, u64>,
-    const B: usize,
-    C: Ledger,
->(rt: &R, alloc: Global, work: &'a Work, steps: &mut Steps<C>) -> Map<A, L, B>
-    requires { IsBlockSize B }
-{
-    let mut map: Map<A, L, B> = MapOver::empty();
+fn few<'a, R: Abort, L: LeafMut<Counted<'a>, u64>, const B: usize, C: Ledger>(
+    rt: &R,
+    alloc: Global,
+    work: &'a Work,
+    steps: &mut Steps<C>,
+) -> Map<Sums<'a>, L, B> {
+    let mut map: Map<Sums<'a>, L, B> = Map::empty();
     for place in 0..FEW {
         map.put_mut(alloc, Counted::new(512 * place + 1, work), place, steps)
             .expect(rt, "put");
@@ -47,7 +43,7 @@ fn shares_few_in<R: Threads + Abort + Sync, const B: usize, C: Ledger>(
     alloc: Global,
     steps: &mut Steps<C>,
 ) -> bool
-    requires size { IsBlockSize B }
+    requires { IsBlockSize B }
 {
     let work = Work::new();
     let many: Tally<'_, B> = evens(rt, alloc, &work, steps);
@@ -67,9 +63,7 @@ fn shares_few_counted<R: Threads + Abort + Sync, C: Ledger>(
     alloc: Global,
     blank: Blank,
 ) -> [bool; 3]
-    requires name { blank.name ≡ C.name }
-    requires parts { blank.parts ≡ C.parts }
-    requires some { 0 < blank.parts }
+    requires { IsFresh C.name C.parts blank }
 {
     let mut steps = Steps::<C>::start(blank);
     let one = shares_few_in::<R, 1, C>(rt, alloc, &mut steps);
@@ -100,30 +94,29 @@ impl Gate for Entered {
 }
 
 /// Each number below `end` that `step` divides, with itself as value.
-fn multiples<R: Abort, A: Augment<Key = u64, Val = u64>, L: Leaf<u64, u64>>(
+fn multiples<R: Abort, L: Leaf<u64, u64>>(
     rt: &R,
     alloc: Global,
     step: u64,
     end: u64,
-) -> Map<A, L, 32> {
+) -> Map<SumMax<u64>, L, 32> {
     let mut pairs = Vec::new(alloc);
     for key in 0..end {
         if key.is_multiple_of(step) {
             pairs.push((key, key)).expect(rt, "memory");
         }
     }
-    MapOver::build_alone(alloc, &pairs).expect(rt, "memory")
+    Map::build_alone(alloc, &pairs).expect(rt, "memory")
 }
 
 /// The size of the union with a map in a sixteenth of the other's range, and how often the gate was entered: by both halves of 15 forks,
 /// where each of sixteen workers has a part.
-fn narrow<
-    R: Threads + Abort + Sync,
-    A: Augment<Key = u64, Val = u64> + SyncAugment,
-    L: Leaf<u64, u64> + Send + Sync,
->(rt: &R, alloc: Global) -> (u64, u64) {
-    let wide = multiples::<R, A, L>(rt, alloc, 2, 320_000);
-    let narrow = multiples::<R, A, L>(rt, alloc, 3, 20_000);
+fn narrow<R: Threads + Abort + Sync, L: Leaf<u64, u64> + Send + Sync>(
+    rt: &R,
+    alloc: Global,
+) -> (u64, u64) {
+    let wide = multiples::<R, L>(rt, alloc, 2, 320_000);
+    let narrow = multiples::<R, L>(rt, alloc, 3, 20_000);
     let gate = Entered {
         times: AtomicU64::new(0),
     };
@@ -135,6 +128,6 @@ fn narrow<
 
 #[test]
 fn a_union_with_a_narrow_map_forks_where_that_is(rt: HostRuntime) {
-    let taken = narrow::<HostRuntime, SumMax<u64>, PlainLeaf<u64, u64>>(&rt, rt.alloc());
+    let taken = narrow::<HostRuntime, PlainLeaf<u64, u64>>(&rt, rt.alloc());
     assert_eq!(rt; taken, (163_333, 30));
 }

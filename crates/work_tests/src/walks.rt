@@ -1,6 +1,5 @@
 //! What a walk over all entries of a map takes.
-ghost use Rattle.std.specs.Prelude.{◌≡◌, ◌<◌};
-ghost use Rattle.map_model.specs.Balance.{IsBlockSize};
+ghost use Rattle.aug_monoid.specs.Fresh.{IsFresh};
 
 use crate::changes::{Block, ENTRIES, evens};
 use crate::counted::Counted;
@@ -28,17 +27,13 @@ fn count_of<R: Abort, A: Augment, L: Leaf<A::Key, A::Val>, const B: usize>(
 }
 
 /// Whether a walk gives every entry, shares each key once and compares none.
-fn shares_each_in<
-    'a,
-    R: Abort,
-    A: Augment<Key = Counted<'a>, Val = u64>,
-    L: LeafMut<Counted<'a>, u64>,
-    const B: usize,
-    C: Ledger,
->(rt: &R, alloc: Global, work: &'a Work, steps: &mut Steps<C>) -> bool
-    requires size { IsBlockSize B }
-{
-    let map = evens::<R, A, L, B, C>(rt, alloc, work, steps);
+fn shares_each_in<'a, R: Abort, L: LeafMut<Counted<'a>, u64>, const B: usize, C: Ledger>(
+    rt: &R,
+    alloc: Global,
+    work: &'a Work,
+    steps: &mut Steps<C>,
+) -> bool {
+    let map = evens::<R, L, B, C>(rt, alloc, work, steps);
     work.take();
     let count = count_of(rt, alloc, &map);
     let taken = work.take();
@@ -46,27 +41,24 @@ fn shares_each_in<
 }
 
 /// The same for blocks of 1, 2 and 32 entries.
-fn shares_each_at_sizes<
-    'a,
-    R: Abort,
-    A: Augment<Key = Counted<'a>, Val = u64>,
-    L: LeafMut<Counted<'a>, u64>,
-    C: Ledger,
->(rt: &R, alloc: Global, work: &'a Work, steps: &mut Steps<C>) -> [bool; 3] {
-    let one = shares_each_in::<R, A, L, 1, C>(rt, alloc, work, steps);
-    let two = shares_each_in::<R, A, L, 2, C>(rt, alloc, work, steps);
-    let many = shares_each_in::<R, A, L, 32, C>(rt, alloc, work, steps);
+fn shares_each_at_sizes<'a, R: Abort, L: LeafMut<Counted<'a>, u64>, C: Ledger>(
+    rt: &R,
+    alloc: Global,
+    work: &'a Work,
+    steps: &mut Steps<C>,
+) -> [bool; 3] {
+    let one = shares_each_in::<R, L, 1, C>(rt, alloc, work, steps);
+    let two = shares_each_in::<R, L, 2, C>(rt, alloc, work, steps);
+    let many = shares_each_in::<R, L, 32, C>(rt, alloc, work, steps);
     [one, two, many]
 }
 
 fn shares_each_counted<R: Abort, C: Ledger>(rt: &R, alloc: Global, blank: Blank) -> [bool; 3]
-    requires name { blank.name ≡ C.name }
-    requires parts { blank.parts ≡ C.parts }
-    requires some { 0 < blank.parts }
+    requires { IsFresh C.name C.parts blank }
 {
     let mut steps = Steps::<C>::start(blank);
     let work = Work::new();
-    shares_each_at_sizes::<R, Sums<'_>, Block<'_>, C>(rt, alloc, &work, &mut steps)
+    shares_each_at_sizes::<R, Block<'_>, C>(rt, alloc, &work, &mut steps)
 }
 
 fn shares_each<R: Abort>(rt: &R, alloc: Global) -> [bool; 3] {

@@ -1,20 +1,17 @@
 //! Maps changed in place beside maps that are changed by copies.
-ghost use Rattle.std.specs.Prelude.{◌≡◌, ◌<◌};
-ghost use Rattle.map_model.specs.Balance.{IsBlockSize};
+
+ghost use Rattle.aug_monoid.specs.Fresh.{IsFresh};
 
 use super::growing::listed;
-use aug_monoid::{LeafMut, SatSum, Share, Steps, SumMax};
-use diff_leaf::DiffLeaf;
-use leaf_blocks::PlainLeaf;
+use super::markers::{Coded, Fours, Plain};
+use aug_monoid::{SatSum, Share, Steps};
 use std::alloc::Global;
 use std::marker::Brand;
 use std::process::Abort;
 use std::sync::ledger::{Blank, Ledger};
-use tree_base::{BlockSize, TreeOver, Width};
-use tree_changes::{del_mut, put_mut, put_with};
-use tree_points::{del, put};
-
-type Sums<L, S> = TreeOver<SumMax<u64>, L, S>;
+use tree_change::{ShapeMut, del_mut, put_mut, put_with};
+use tree_entry::{del, put};
+use tree_shape::{Shape, Tree};
 
 /// The number after another one in a sequence that looks like chance.
 fn next_number(number: u64) -> u64 {
@@ -25,14 +22,14 @@ fn next_number(number: u64) -> u64 {
 
 /// Changes a map in place at a key below 512 that a number gives, and answers another map with the same change: a removal
 /// after one number in three, a put after the others.
-fn change_both<R: Abort, L: LeafMut<u64, u64>, S: BlockSize, C: Ledger>(
+fn change_both<R: Abort, M: ShapeMut + Shape<Key = u64, Val = u64>, C: Ledger>(
     rt: &R,
     alloc: Global,
-    own: &mut Sums<L, S>,
-    copied: Sums<L, S>,
+    own: &mut Tree<M>,
+    copied: Tree<M>,
     number: u64,
     steps: &mut Steps<C>,
-) -> Sums<L, S> {
+) -> Tree<M> {
     let key = (number >> 33) % 512;
     let new = if (number >> 20) % 3 == 0 {
         del_mut(alloc, own, &key, steps).expect(rt, "memory");
@@ -45,14 +42,14 @@ fn change_both<R: Abort, L: LeafMut<u64, u64>, S: BlockSize, C: Ledger>(
 }
 
 /// A thousand changes of a map in place, and of another one by copies.
-fn change_often<R: Abort, L: LeafMut<u64, u64>, S: BlockSize, C: Ledger>(
+fn change_often<R: Abort, M: ShapeMut + Shape<Key = u64, Val = u64>, C: Ledger>(
     rt: &R,
     alloc: Global,
-    own: &mut Sums<L, S>,
-    copied: Sums<L, S>,
+    own: &mut Tree<M>,
+    copied: Tree<M>,
     seed: u64,
     steps: &mut Steps<C>,
-) -> Sums<L, S> {
+) -> Tree<M> {
     let mut copied = copied;
     let mut number = seed;
     for _round in 0..1000 {
@@ -63,11 +60,11 @@ fn change_often<R: Abort, L: LeafMut<u64, u64>, S: BlockSize, C: Ledger>(
 }
 
 /// Asserts that two maps have the same entries, which it answers.
-fn same<R: Abort, L: LeafMut<u64, u64>, S: BlockSize>(
+fn same<R: Abort, M: ShapeMut + Shape<Key = u64, Val = u64>>(
     rt: &R,
     alloc: Global,
-    own: &Sums<L, S>,
-    copied: &Sums<L, S>,
+    own: &Tree<M>,
+    copied: &Tree<M>,
 ) -> Vec<(u64, u64)> {
     let entries = listed(rt, alloc, own);
     assert_eq!(rt; entries.as_slice(), listed(rt, alloc, copied).as_slice());
@@ -75,13 +72,13 @@ fn same<R: Abort, L: LeafMut<u64, u64>, S: BlockSize>(
 }
 
 /// Puts at a key that neither map has: twice in place, where the second value is added to the first, and once by a copy.
-fn put_last<R: Abort, L: LeafMut<u64, u64>, S: BlockSize, C: Ledger>(
+fn put_last<R: Abort, M: ShapeMut + Shape<Key = u64, Val = u64>, C: Ledger>(
     rt: &R,
     alloc: Global,
-    own: &mut Sums<L, S>,
-    copied: &Sums<L, S>,
+    own: &mut Tree<M>,
+    copied: &Tree<M>,
     steps: &mut Steps<C>,
-) -> Sums<L, S> {
+) -> Tree<M> {
     put_with(alloc, own, 512, 1, &SatSum, steps).expect(rt, "memory");
     put_with(alloc, own, 512, 2, &SatSum, steps).expect(rt, "memory");
     put(alloc, copied, 512, 3, steps).expect(rt, "memory")
@@ -89,19 +86,16 @@ fn put_last<R: Abort, L: LeafMut<u64, u64>, S: BlockSize, C: Ledger>(
 
 /// Asserts that a map that is changed in place has the entries of one that is changed by copies, before and after it gets a
 /// second owner, which keeps the entries that it had.
-fn assert_agree_counted<R: Abort, L: LeafMut<u64, u64>, S: BlockSize, C: Ledger>(
+fn assert_agree_counted<R: Abort, M: ShapeMut + Shape<Key = u64, Val = u64>, C: Ledger>(
     rt: &R,
     alloc: Global,
     blank: Blank,
 )
-    requires block_size { IsBlockSize S.SIZE }
-    requires name { blank.name ≡ C.name }
-    requires parts { blank.parts ≡ C.parts }
-    requires some { 0 < blank.parts }
+    requires { IsFresh C.name C.parts blank }
 {
     let mut steps = Steps::<C>::start(blank);
-    let mut own: Sums<L, S> = TreeOver::empty();
-    let copied = change_often(rt, alloc, &mut own, TreeOver::empty(), 1, &mut steps);
+    let mut own: Tree<M> = Tree::empty();
+    let copied = change_often(rt, alloc, &mut own, Tree::empty(), 1, &mut steps);
     let before = same(rt, alloc, &own, &copied);
     let second = own.share(alloc).expect(rt, "memory");
     let copied = change_often(rt, alloc, &mut own, copied, 2, &mut steps);
@@ -111,20 +105,23 @@ fn assert_agree_counted<R: Abort, L: LeafMut<u64, u64>, S: BlockSize, C: Ledger>
     assert!(rt; before != after);
 }
 
-fn assert_agree<R: Abort, L: LeafMut<u64, u64>, S: BlockSize>(rt: &R, alloc: Global)
-    requires { IsBlockSize S.SIZE }
-{
-    assert_agree_counted::<R, L, S, Brand>(rt, alloc, Blank::new(1));
+fn assert_agree<R: Abort, M: ShapeMut + Shape<Key = u64, Val = u64>>(rt: &R, alloc: Global) {
+    assert_agree_counted::<R, M, Brand>(rt, alloc, Blank::new(1));
 }
 
 #[test]
 fn plain_maps_changed_in_place(rt: HostRuntime) {
-    assert_agree::<HostRuntime, PlainLeaf<u64, u64>, Width<1>>(&rt, rt.alloc());
-    assert_agree::<HostRuntime, PlainLeaf<u64, u64>, Width<2>>(&rt, rt.alloc());
-    assert_agree::<HostRuntime, PlainLeaf<u64, u64>, Width<32>>(&rt, rt.alloc());
+    assert_agree::<HostRuntime, Plain<1>>(&rt, rt.alloc());
+    assert_agree::<HostRuntime, Plain<2>>(&rt, rt.alloc());
+    assert_agree::<HostRuntime, Plain<32>>(&rt, rt.alloc());
 }
 
 #[test]
 fn coded_maps_changed_in_place(rt: HostRuntime) {
-    assert_agree::<HostRuntime, DiffLeaf<u64>, Width<32>>(&rt, rt.alloc());
+    assert_agree::<HostRuntime, Coded<32>>(&rt, rt.alloc());
+}
+
+#[test]
+fn maps_of_a_shape_of_its_own_changed_in_place(rt: HostRuntime) {
+    assert_agree::<HostRuntime, Fours>(&rt, rt.alloc());
 }

@@ -1,50 +1,44 @@
 //! Each augmented value and each leaf in a map.
-ghost use Rattle.std.specs.Prelude.{◌≡◌, ◌<◌};
-ghost use Rattle.map_model.specs.Balance.{IsBlockSize};
 
-use aug_monoid::{Augment, Leaf, MaxRight, Nothing, Pair, Pair64, Share, Steps, SumMax, Totals};
+ghost use Rattle.aug_monoid.specs.Fresh.{IsFresh};
+
+use super::markers::Plain;
+use aug_monoid::{MaxRight, Nothing, Pair, Pair64, Share, Steps, SumMax, Totals};
 use diff_leaf::DiffLeaf;
 use leaf_blocks::PlainLeaf;
 use std::alloc::Global;
 use std::marker::Brand;
 use std::process::Abort;
 use std::sync::ledger::{Blank, Ledger};
-use tree_base::{BlockSize, TreeOver, Width};
-use tree_points::{del, get, put, single};
+use tree_entry::{del, get, put, single};
+use tree_shape::{Of, Shape, Tree};
 
 /// The size of a map of two entries without the first, its fold, and the value at its key.
 #[derive(Drop)]
-struct Left<A: Augment> {
+struct Left<M: Shape> {
     size: u64,
-    fold: Option<A::Aug>,
-    val: Option<A::Val>,
+    fold: Option<M::Aug>,
+    val: Option<M::Val>,
 }
 
-fn fold_of<R: Abort, A: Augment, L: Leaf<A::Key, A::Val>, S: BlockSize>(
-    rt: &R,
-    alloc: Global,
-    tree: &TreeOver<A, L, S>,
-) -> Option<A::Aug> {
+fn fold_of<R: Abort, M: Shape>(rt: &R, alloc: Global, tree: &Tree<M>) -> Option<M::Aug> {
     let fold = tree.aug()?;
     Some(fold.share(alloc).expect(rt, "memory"))
 }
 
-fn left_counted<R: Abort, A: Augment, L: Leaf<A::Key, A::Val>, S: BlockSize, C: Ledger>(
+fn left_counted<R: Abort, M: Shape, C: Ledger>(
     rt: &R,
     alloc: Global,
-    first: (A::Key, A::Val),
-    second: (A::Key, A::Val),
+    first: (M::Key, M::Val),
+    second: (M::Key, M::Val),
     blank: Blank,
-) -> Left<A>
-    requires block_size { IsBlockSize S.SIZE }
-    requires name { blank.name ≡ C.name }
-    requires parts { blank.parts ≡ C.parts }
-    requires some { 0 < blank.parts }
+) -> Left<M>
+    requires { IsFresh C.name C.parts blank }
 {
     let mut steps = Steps::<C>::start(blank);
     let early = first.0.share(alloc).expect(rt, "memory");
     let late = second.0.share(alloc).expect(rt, "memory");
-    let one: TreeOver<A, L, S> = single(alloc, early, first.1).expect(rt, "memory");
+    let one: Tree<M> = single(alloc, early, first.1).expect(rt, "memory");
     let two = put(alloc, &one, late, second.1, &mut steps).expect(rt, "memory");
     let left = del(alloc, &two, &first.0, &mut steps).expect(rt, "memory");
     let left = left.share(alloc).expect(rt, "memory");
@@ -56,18 +50,14 @@ fn left_counted<R: Abort, A: Augment, L: Leaf<A::Key, A::Val>, S: BlockSize, C: 
     }
 }
 
-fn left_of_two<R: Abort, A: Augment, L: Leaf<A::Key, A::Val>, S: BlockSize>(
+fn left_of_two<R: Abort, M: Shape>(
     rt: &R,
     alloc: Global,
-    first: (A::Key, A::Val),
-    second: (A::Key, A::Val),
-) -> Left<A>
-    requires { IsBlockSize S.SIZE }
-{
-    left_counted::<R, A, L, S, Brand>(rt, alloc, first, second, Blank::new(1))
+    first: (M::Key, M::Val),
+    second: (M::Key, M::Val),
+) -> Left<M> {
+    left_counted::<R, M, Brand>(rt, alloc, first, second, Blank::new(1))
 }
-
-type Plain = PlainLeaf<u64, u64>;
 
 const SUM_OF_80: Totals = Totals {
     sum: 80,
@@ -76,12 +66,7 @@ const SUM_OF_80: Totals = Totals {
 
 #[test]
 fn maps_with_sums(rt: HostRuntime) {
-    let left = left_of_two::<HostRuntime, SumMax<u64>, Plain, Width<1>>(
-        &rt,
-        rt.alloc(),
-        (7, 70),
-        (8, 80),
-    );
+    let left = left_of_two::<HostRuntime, Plain<1>>(&rt, rt.alloc(), (7, 70), (8, 80));
     assert_eq!(rt; left.size, 1);
     assert_eq!(rt; left.fold, Some(SUM_OF_80));
     assert_eq!(rt; left.val, Some(80));
@@ -89,7 +74,7 @@ fn maps_with_sums(rt: HostRuntime) {
 
 #[test]
 fn maps_of_coded_leaves(rt: HostRuntime) {
-    let left = left_of_two::<HostRuntime, Nothing<u64, u64>, DiffLeaf<u64>, Width<32>>(
+    let left = left_of_two::<HostRuntime, Of<Nothing<u64, u64>, DiffLeaf<u64>, 32>>(
         &rt,
         rt.alloc(),
         (7, 70),
@@ -101,7 +86,7 @@ fn maps_of_coded_leaves(rt: HostRuntime) {
 
 #[test]
 fn maps_of_coded_keys(rt: HostRuntime) {
-    let left = left_of_two::<HostRuntime, Nothing<u64, ()>, DiffLeaf<()>, Width<2>>(
+    let left = left_of_two::<HostRuntime, Of<Nothing<u64, ()>, DiffLeaf<()>, 2>>(
         &rt,
         rt.alloc(),
         (7, ()),
@@ -120,7 +105,7 @@ fn maps_of_intervals(rt: HostRuntime) {
         first: 2,
         second: 3,
     };
-    let left = left_of_two::<HostRuntime, MaxRight, PlainLeaf<Pair64, ()>, Width<2>>(
+    let left = left_of_two::<HostRuntime, Of<MaxRight, PlainLeaf<Pair64, ()>, 2>>(
         &rt,
         rt.alloc(),
         (wide, ()),
@@ -133,7 +118,7 @@ type Both = Pair<SumMax<u64>, Nothing<u64, u64>>;
 
 #[test]
 fn maps_with_two_folds(rt: HostRuntime) {
-    let left = left_of_two::<HostRuntime, Both, Plain, Width<128>>(
+    let left = left_of_two::<HostRuntime, Of<Both, PlainLeaf<u64, u64>, 128>>(
         &rt,
         rt.alloc(),
         (7, 70),

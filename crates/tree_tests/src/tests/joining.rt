@@ -1,20 +1,21 @@
 //! Large maps joined with small ones.
-ghost use Rattle.std.specs.Prelude.{◌≡◌, ◌<◌};
-ghost use Rattle.map_model.specs.Balance.{IsBlockSize};
 
-use super::growing::{Sums, parted, rising};
-use aug_monoid::Steps;
-use join_core::{join, join2};
+ghost use Rattle.aug_monoid.specs.Fresh.{IsFresh};
+
+use super::growing::{parted, rising};
+use super::markers::Plain;
+use aug_monoid::{Steps, Totals};
 use std::alloc::Global;
 use std::marker::Brand;
 use std::process::Abort;
 use std::sync::ledger::{Blank, Ledger};
-use tree_base::{BlockSize, Width};
+use tree_join::{join, join2};
+use tree_shape::{Shape, Tree};
 
 /// A map's size, the sum of its values, and its height.
 type Outline = (u64, u64, u32);
 
-fn outline<S: BlockSize>(tree: &Sums<S>) -> Outline {
+fn outline<M: Shape<Key = u64, Val = u64, Aug = Totals>>(tree: &Tree<M>) -> Outline {
     let sum = match tree.aug() {
         Some(totals) => totals.sum,
         None => 0,
@@ -32,10 +33,10 @@ struct Joins {
     closed: Outline,
 }
 
-fn joined_around<R: Abort, S: BlockSize, C: Ledger>(
+fn joined_around<R: Abort, M: Shape<Key = u64, Val = u64, Aug = Totals>, C: Ledger>(
     rt: &R,
     alloc: Global,
-    tree: &Sums<S>,
+    tree: &Tree<M>,
     key: u64,
     steps: &mut Steps<C>,
 ) -> Joins {
@@ -51,18 +52,15 @@ fn joined_around<R: Abort, S: BlockSize, C: Ledger>(
 }
 
 /// The outlines around the second key and around the last but one, of the map of the keys from 1 to 100002.
-fn around_counted<R: Abort, S: BlockSize, C: Ledger>(
+fn around_counted<R: Abort, M: Shape<Key = u64, Val = u64, Aug = Totals>, C: Ledger>(
     rt: &R,
     alloc: Global,
     blank: Blank,
 ) -> (Joins, Joins)
-    requires block_size { IsBlockSize S.SIZE }
-    requires name { blank.name ≡ C.name }
-    requires parts { blank.parts ≡ C.parts }
-    requires some { 0 < blank.parts }
+    requires { IsFresh C.name C.parts blank }
 {
     let mut steps = Steps::<C>::start(blank);
-    let tree: Sums<S> = rising(rt, alloc, 100003, &mut steps);
+    let tree: Tree<M> = rising(rt, alloc, 100003, &mut steps);
     let low = joined_around(rt, alloc, &tree, 2, &mut steps);
     let high = joined_around(rt, alloc, &tree, 100001, &mut steps);
     (low, high)
@@ -75,10 +73,12 @@ fn is_outline(outline: Outline, size: u64, sum: u64, height: u32) -> bool {
 }
 
 /// Whether a map of one entry and a map of 100000 were joined both ways, into maps of at most a height.
-fn joined_within<R: Abort, S: BlockSize>(rt: &R, alloc: Global, height: u32) -> bool
-    requires { IsBlockSize S.SIZE }
-{
-    let (low, high) = around_counted::<R, S, Brand>(rt, alloc, Blank::new(1));
+fn joined_within<R: Abort, M: Shape<Key = u64, Val = u64, Aug = Totals>>(
+    rt: &R,
+    alloc: Global,
+    height: u32,
+) -> bool {
+    let (low, high) = around_counted::<R, M, Brand>(rt, alloc, Blank::new(1));
     low_within(low, height) && high_within(high, height)
 }
 
@@ -98,15 +98,15 @@ fn high_within(joins: Joins, height: u32) -> bool {
 
 #[test]
 fn one_entry_and_many_in_blocks_of_one(rt: HostRuntime) {
-    assert!(rt; joined_within::<HostRuntime, Width<1>>(&rt, rt.alloc(), 37));
+    assert!(rt; joined_within::<HostRuntime, Plain<1>>(&rt, rt.alloc(), 37));
 }
 
 #[test]
 fn one_entry_and_many_in_blocks_of_two(rt: HostRuntime) {
-    assert!(rt; joined_within::<HostRuntime, Width<2>>(&rt, rt.alloc(), 36));
+    assert!(rt; joined_within::<HostRuntime, Plain<2>>(&rt, rt.alloc(), 36));
 }
 
 #[test]
 fn one_entry_and_many_in_blocks_of_32(rt: HostRuntime) {
-    assert!(rt; joined_within::<HostRuntime, Width<32>>(&rt, rt.alloc(), 27));
+    assert!(rt; joined_within::<HostRuntime, Plain<32>>(&rt, rt.alloc(), 27));
 }

@@ -1,29 +1,29 @@
 //! Keys whose shares are refused, and an augmented value whose combination may be.
-ghost use Rattle.std.specs.Prelude.{◌≡◌, ◌+◌, ◌<◌, IfOk, IsOk};
+ghost use Rattle.std.specs.Prelude.{◌+◌, IfOk, IsOk};
 ghost use Rattle.std.proofs.Common.{arith};
-ghost use Rattle.map_model.specs.Balance.{IsBlockSize};
+ghost use Rattle.aug_monoid.specs.Fresh.{IsFresh};
 
 use super::growing::{listed, parted};
 use super::probe::{Probe, ProbeKey};
 use super::watching::{Watched, rising_watched};
 use aug_monoid::{Augment, NoMemory, Steps};
-use join_core::{join, join2};
 use leaf_blocks::PlainLeaf;
 use std::alloc::Global;
 use std::marker::Brand;
 use std::process::Abort;
 use std::sync::Arc;
 use std::sync::ledger::{Blank, Ledger};
-use tree_base::{BlockSize, TreeOver, Width};
-use tree_points::{del, get, put};
-use tree_split::{expose, split};
+use tree_cut::{expose, split};
+use tree_entry::{del, get, put};
+use tree_join::{join, join2};
+use tree_shape::{Of, Shape, Tree};
 
 /// Which of `get`, `put` and `del` are refused where shares of keys are: `get` shares no key.
-fn refused_points<R: Abort, S: BlockSize, C: Ledger>(
+fn refused_points<R: Abort, M: Shape<Key = ProbeKey, Val = u64>, C: Ledger>(
     rt: &R,
     alloc: Global,
     probe: &Arc<Probe>,
-    tree: &Watched<S>,
+    tree: &Tree<M>,
     steps: &mut Steps<C>,
 ) -> (bool, bool, bool) {
     let first = ProbeKey::made(rt, 1, probe);
@@ -37,11 +37,11 @@ fn refused_points<R: Abort, S: BlockSize, C: Ledger>(
 }
 
 /// Which of `join` and `join2` are refused where shares are.
-fn refused_joins<R: Abort, S: BlockSize, C: Ledger>(
+fn refused_joins<R: Abort, M: Shape<Key = ProbeKey, Val = u64>, C: Ledger>(
     rt: &R,
     alloc: Global,
     probe: &Arc<Probe>,
-    tree: &Watched<S>,
+    tree: &Tree<M>,
     steps: &mut Steps<C>,
 ) -> (bool, bool) {
     let middle = ProbeKey::made(rt, 5, probe);
@@ -54,11 +54,11 @@ fn refused_joins<R: Abort, S: BlockSize, C: Ledger>(
 }
 
 /// Which of `split`, `expose` and `push_entries` are refused where shares are.
-fn refused_wholes<R: Abort, S: BlockSize, C: Ledger>(
+fn refused_wholes<R: Abort, M: Shape<Key = ProbeKey, Val = u64>, C: Ledger>(
     rt: &R,
     alloc: Global,
     probe: &Arc<Probe>,
-    tree: &Watched<S>,
+    tree: &Tree<M>,
     steps: &mut Steps<C>,
 ) -> (bool, bool, bool) {
     let middle = ProbeKey::made(rt, 5, probe);
@@ -71,7 +71,11 @@ fn refused_wholes<R: Abort, S: BlockSize, C: Ledger>(
 }
 
 /// The numbers and values of a map's entries.
-fn numbers<R: Abort, S: BlockSize>(rt: &R, alloc: Global, tree: &Watched<S>) -> Vec<(u64, u64)> {
+fn numbers<R: Abort, M: Shape<Key = ProbeKey, Val = u64>>(
+    rt: &R,
+    alloc: Global,
+    tree: &Tree<M>,
+) -> Vec<(u64, u64)> {
     let entries = listed(rt, alloc, tree);
     let mut numbers = Vec::new(alloc);
     for (key, val) in &entries {
@@ -89,19 +93,16 @@ struct Refusals {
     is_unchanged: bool,
 }
 
-fn refused_counted<R: Abort, S: BlockSize, C: Ledger>(
+fn refused_counted<R: Abort, M: Shape<Key = ProbeKey, Val = u64>, C: Ledger>(
     rt: &R,
     alloc: Global,
     blank: Blank,
 ) -> Refusals
-    requires block_size { IsBlockSize S.SIZE }
-    requires name { blank.name ≡ C.name }
-    requires parts { blank.parts ≡ C.parts }
-    requires some { 0 < blank.parts }
+    requires { IsFresh C.name C.parts blank }
 {
     let mut steps = Steps::<C>::start(blank);
     let probe = Probe::start(rt, alloc);
-    let tree: Watched<S> = rising_watched(rt, alloc, &probe, 10, &mut steps);
+    let tree: Tree<M> = rising_watched(rt, alloc, &probe, 10, &mut steps);
     let before = numbers(rt, alloc, &tree);
     let points = refused_points(rt, alloc, &probe, &tree, &mut steps);
     let joins = refused_joins(rt, alloc, &probe, &tree, &mut steps);
@@ -114,15 +115,13 @@ fn refused_counted<R: Abort, S: BlockSize, C: Ledger>(
     }
 }
 
-fn refused<R: Abort, S: BlockSize>(rt: &R, alloc: Global) -> Refusals
-    requires { IsBlockSize S.SIZE }
-{
-    refused_counted::<R, S, Brand>(rt, alloc, Blank::new(1))
+fn refused<R: Abort, M: Shape<Key = ProbeKey, Val = u64>>(rt: &R, alloc: Global) -> Refusals {
+    refused_counted::<R, M, Brand>(rt, alloc, Blank::new(1))
 }
 
 #[test]
 fn a_refused_share_leaves_the_map(rt: HostRuntime) {
-    let nodes = refused::<HostRuntime, Width<2>>(&rt, rt.alloc());
+    let nodes = refused::<HostRuntime, Watched<2>>(&rt, rt.alloc());
     assert_eq!(rt; nodes.points, (false, true, true));
     assert_eq!(rt; nodes.wholes, (true, true, true));
     assert!(rt; nodes.is_unchanged);
@@ -130,7 +129,7 @@ fn a_refused_share_leaves_the_map(rt: HostRuntime) {
 
 #[test]
 fn a_refused_share_leaves_a_map_of_one_block(rt: HostRuntime) {
-    let block = refused::<HostRuntime, Width<32>>(&rt, rt.alloc());
+    let block = refused::<HostRuntime, Watched<32>>(&rt, rt.alloc());
     assert_eq!(rt; block.points, (false, true, true));
     assert_eq!(rt; block.joins, (true, true));
     assert_eq!(rt; block.wholes, (true, true, true));
@@ -183,21 +182,18 @@ impl Augment for CheckedSum {
     }
 }
 
-type Checked<S> = TreeOver<CheckedSum, PlainLeaf<u64, u64>, S>;
+type Checked<const B: usize> = Of<CheckedSum, PlainLeaf<u64, u64>, B>;
 
 /// Whether a map of nine keys refuses a value that is too large for its sum, and its fold and size after.
-fn overfull_counted<R: Abort, S: BlockSize, C: Ledger>(
+fn overfull_counted<R: Abort, M: Shape<Key = u64, Val = u64, Aug = u64>, C: Ledger>(
     rt: &R,
     alloc: Global,
     blank: Blank,
 ) -> (bool, Option<u64>, u64)
-    requires block_size { IsBlockSize S.SIZE }
-    requires name { blank.name ≡ C.name }
-    requires parts { blank.parts ≡ C.parts }
-    requires some { 0 < blank.parts }
+    requires { IsFresh C.name C.parts blank }
 {
     let mut steps = Steps::<C>::start(blank);
-    let mut tree: Checked<S> = TreeOver::empty();
+    let mut tree: Tree<M> = Tree::empty();
     for key in 1..10 {
         tree = put(alloc, &tree, key, key, &mut steps).expect(rt, "memory");
     }
@@ -205,15 +201,22 @@ fn overfull_counted<R: Abort, S: BlockSize, C: Ledger>(
     (refused, tree.aug().copied(), tree.size())
 }
 
-fn overfull<R: Abort, S: BlockSize>(rt: &R, alloc: Global) -> (bool, Option<u64>, u64)
-    requires { IsBlockSize S.SIZE }
-{
-    overfull_counted::<R, S, Brand>(rt, alloc, Blank::new(1))
+fn overfull<R: Abort, M: Shape<Key = u64, Val = u64, Aug = u64>>(
+    rt: &R,
+    alloc: Global,
+) -> (bool, Option<u64>, u64) {
+    overfull_counted::<R, M, Brand>(rt, alloc, Blank::new(1))
 }
 
 #[test]
 fn a_refused_fold_leaves_the_map(rt: HostRuntime) {
     let wanted = (true, Some(45), 9);
-    assert_eq!(rt; overfull::<HostRuntime, Width<1>>(&rt, rt.alloc()), wanted);
-    assert_eq!(rt; overfull::<HostRuntime, Width<32>>(&rt, rt.alloc()), wanted);
+    assert_eq!(rt;
+        overfull::<HostRuntime, Checked<1>>(&rt, rt.alloc()),
+        wanted
+    );
+    assert_eq!(rt;
+        overfull::<HostRuntime, Checked<32>>(&rt, rt.alloc()),
+        wanted
+    );
 }

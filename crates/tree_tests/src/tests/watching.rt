@@ -1,6 +1,6 @@
 //! A key that counts its own comparisons.
-ghost use Rattle.std.specs.Prelude.{◌≡◌, ◌<◌};
-ghost use Rattle.map_model.specs.Balance.{IsBlockSize};
+
+ghost use Rattle.aug_monoid.specs.Fresh.{IsFresh};
 
 use super::probe::{Probe, ProbeKey};
 use aug_monoid::{Nothing, Steps};
@@ -10,22 +10,20 @@ use std::marker::Brand;
 use std::process::Abort;
 use std::sync::Arc;
 use std::sync::ledger::{Blank, Ledger};
-use tree_base::{BlockSize, TreeOver, Width};
-use tree_points::{get, put};
+use tree_entry::{get, put};
+use tree_shape::{Of, Shape, Tree};
 
-pub(crate) type Watched<S> = TreeOver<Nothing<ProbeKey, u64>, PlainLeaf<ProbeKey, u64>, S>;
+pub(crate) type Watched<const B: usize> = Of<Nothing<ProbeKey, u64>, PlainLeaf<ProbeKey, u64>, B>;
 
 /// The keys from 1 to below a number, put in rising order, each with its number as value.
-pub(crate) fn rising_watched<R: Abort, S: BlockSize, C: Ledger>(
+pub(crate) fn rising_watched<R: Abort, M: Shape<Key = ProbeKey, Val = u64>, C: Ledger>(
     rt: &R,
     alloc: Global,
     probe: &Arc<Probe>,
     end: u64,
     steps: &mut Steps<C>,
-) -> Watched<S>
-    requires { IsBlockSize S.SIZE }
-{
-    let mut tree: Watched<S> = TreeOver::empty();
+) -> Tree<M> {
+    let mut tree: Tree<M> = Tree::empty();
     for number in 1..end {
         let key = ProbeKey::made(rt, number, probe);
         tree = put(alloc, &tree, key, number, steps).expect(rt, "memory");
@@ -41,11 +39,11 @@ struct Lookup {
 }
 
 /// The look-up of a number.
-fn looked_up<R: Abort, S: BlockSize, C: Ledger>(
+fn looked_up<R: Abort, M: Shape<Key = ProbeKey, Val = u64>, C: Ledger>(
     rt: &R,
     alloc: Global,
     probe: &Arc<Probe>,
-    tree: &Watched<S>,
+    tree: &Tree<M>,
     number: u64,
     steps: &mut Steps<C>,
 ) -> Lookup {
@@ -76,11 +74,11 @@ impl Lookups {
 }
 
 /// The look-ups of the numbers below a number.
-fn watched_lookups<R: Abort, S: BlockSize, C: Ledger>(
+fn watched_lookups<R: Abort, M: Shape<Key = ProbeKey, Val = u64>, C: Ledger>(
     rt: &R,
     alloc: Global,
     probe: &Arc<Probe>,
-    tree: &Watched<S>,
+    tree: &Tree<M>,
     count: u64,
     steps: &mut Steps<C>,
 ) -> Lookups {
@@ -92,44 +90,39 @@ fn watched_lookups<R: Abort, S: BlockSize, C: Ledger>(
 }
 
 /// The look-ups in a map of 100000 entries, and its height.
-fn lookups_counted<R: Abort, S: BlockSize, C: Ledger>(
+fn lookups_counted<R: Abort, M: Shape<Key = ProbeKey, Val = u64>, C: Ledger>(
     rt: &R,
     alloc: Global,
     blank: Blank,
 ) -> (Lookups, u32)
-    requires block_size { IsBlockSize S.SIZE }
-    requires name { blank.name ≡ C.name }
-    requires parts { blank.parts ≡ C.parts }
-    requires some { 0 < blank.parts }
+    requires { IsFresh C.name C.parts blank }
 {
     let mut steps = Steps::<C>::start(blank);
     let probe = Probe::start(rt, alloc);
-    let tree: Watched<S> = rising_watched(rt, alloc, &probe, 100001, &mut steps);
+    let tree: Tree<M> = rising_watched(rt, alloc, &probe, 100001, &mut steps);
     let lookups = watched_lookups(rt, alloc, &probe, &tree, 100002, &mut steps);
     (lookups, tree.height())
 }
 
 /// Whether the look-ups in a map of 100000 entries found those and took no more comparisons than they may, which are the
 /// height and 9.
-fn are_within<R: Abort, S: BlockSize>(rt: &R, alloc: Global) -> bool
-    requires { IsBlockSize S.SIZE }
-{
-    let (lookups, height) = lookups_counted::<R, S, Brand>(rt, alloc, Blank::new(1));
+fn are_within<R: Abort, M: Shape<Key = ProbeKey, Val = u64>>(rt: &R, alloc: Global) -> bool {
+    let (lookups, height) = lookups_counted::<R, M, Brand>(rt, alloc, Blank::new(1));
     let most = height as u64 + 9;
     lookups.found == 100000 && 0 < lookups.most && lookups.most <= most
 }
 
 #[test]
 fn lookups_in_blocks_of_one(rt: HostRuntime) {
-    assert!(rt; are_within::<HostRuntime, Width<1>>(&rt, rt.alloc()));
+    assert!(rt; are_within::<HostRuntime, Watched<1>>(&rt, rt.alloc()));
 }
 
 #[test]
 fn lookups_in_blocks_of_two(rt: HostRuntime) {
-    assert!(rt; are_within::<HostRuntime, Width<2>>(&rt, rt.alloc()));
+    assert!(rt; are_within::<HostRuntime, Watched<2>>(&rt, rt.alloc()));
 }
 
 #[test]
 fn lookups_in_blocks_of_32(rt: HostRuntime) {
-    assert!(rt; are_within::<HostRuntime, Width<32>>(&rt, rt.alloc()));
+    assert!(rt; are_within::<HostRuntime, Watched<32>>(&rt, rt.alloc()));
 }

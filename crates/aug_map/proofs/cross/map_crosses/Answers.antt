@@ -1,7 +1,7 @@
 use denote.Param.Send.{sendable}
 use Rattle.std.proofs.Crossing.{crosses as std_crosses}
-use Rattle.tree_base.proofs.tree.TreeOver.TheLaws.TheKnot.{both_send-TreeOver as tree_send, both_sync-TreeOver as tree_sync}
-use Rattle.tree_base.proofs.tree.Block.TheSendSync as Block
+use Rattle.tree_shape.proofs.tree.Tree.TheLaws.TheKnot.{both_send-Tree as tree_send, both_sync-Tree as tree_sync}
+use Rattle.tree_shape.proofs.tree.Block.TheSendSync as Block
 use Rattle.aug_map.proofs.cross.map_crosses.Goals as goal
 
 pub crosses-requires-send-T : goal.crosses-requires-send-T

@@ -8,15 +8,15 @@ pub returns-then-at-before : goal.returns-then-at-before
 returns-then-at-before g t c =
     let left = c.in-Node.left.now.entries in
     let right = c.in-Node.right.now.entries in
-    let e : g.row.A-Key.Denot × g.row.A-Val.Denot = (c.in-Node.key.now, c.in-Node.val.now) in
+    let e : g.row.M-Key.Denot × g.row.M-Val.Denot = (c.in-Node.key.now, c.in-Node.val.now) in
     let whole = ap (drop c.args.at) c.in-Node.ensures.top.entries_are ∙ drop-append-le c.args.at left (e ∷ right) (omega (arith, c.size-before.ensures.value, c.if-at-before.true)) in
-    λ more. subst (λ l. IsSeat g.L.Leaf.entries l c.find_seat.result) (sym (ap (λ l. l ++ led_by c.args.after more) whole ∙ append_assoc (drop c.args.at left) (e ∷ right) (led_by c.args.after more))) (c.find_seat.ensures (right ++ led_by c.args.after more))
+    λ more. subst (λ l. IsSeat g.M.Leaf.Leaf.entries l c.find_seat.result) (sym (ap (λ l. l ++ led_by c.args.after more) whole ∙ append_assoc (drop c.args.at left) (e ∷ right) (led_by c.args.after more))) (c.find_seat.ensures (right ++ led_by c.args.after more))
 
 pub returns-then-at-before-2 : goal.returns-then-at-before-2
 returns-then-at-before-2 g t c =
     let left = c.in-Node.left.now.entries in
     let right = c.in-Node.right.now.entries in
-    let e : g.row.A-Key.Denot × g.row.A-Val.Denot = (c.in-Node.key.now, c.in-Node.val.now) in
+    let e : g.row.M-Key.Denot × g.row.M-Val.Denot = (c.in-Node.key.now, c.in-Node.val.now) in
     let whole = ap (drop c.args.at) c.in-Node.ensures.top.entries_are ∙ drop_at left (e ∷ right) c.args.at (omega (arith, c.size-before.ensures.value, c.if-at-before-2.true)) in
     λ more. (right ++ led_by c.args.after more, ap (λ l. l ++ led_by c.args.after more) whole)
 
@@ -24,8 +24,8 @@ pub returns-else-at-before-2 : goal.returns-else-at-before-2
 returns-else-at-before-2 g t c =
     let left = c.in-Node.left.now.entries in
     let right = c.in-Node.right.now.entries in
-    let e : g.row.A-Key.Denot × g.row.A-Val.Denot = (c.in-Node.key.now, c.in-Node.val.now) in
+    let e : g.row.M-Key.Denot × g.row.M-Val.Denot = (c.in-Node.key.now, c.in-Node.val.now) in
     let before = c.size-before.ensures.value in
     let behind = drop_behind left e right c.args.at (omega (arith, before, c.if-at-before.false, c.if-at-before-2.false)) in
     let whole = ap (drop c.args.at) c.in-Node.ensures.top.entries_are ∙ behind ∙ ap (λ n. drop (c.args.at - n - 1) right) (sym before) in
-    λ more. subst (λ l. IsSeat g.L.Leaf.entries l c.find_seat-else-at-before-2.result) (sym (ap (λ l. l ++ led_by c.args.after more) whole)) (c.find_seat-else-at-before-2.ensures more)
+    λ more. subst (λ l. IsSeat g.M.Leaf.Leaf.entries l c.find_seat-else-at-before-2.result) (sym (ap (λ l. l ++ led_by c.args.after more) whole)) (c.find_seat-else-at-before-2.ensures more)

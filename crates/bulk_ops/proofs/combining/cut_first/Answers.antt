@@ -11,5 +11,5 @@ returns-in_ok-below-in-Node g c =
     let val = c.in-Node.val.now in
     let is : c.args.a.now.entries ≡ sides.near.entries ++ (key, val) ∷ sides.far.entries = c.in-Node.ensures.top.entries_are ∙ sym (ap₂ (λ x y. x ++ (key, val) ∷ y) sides.ensures.near sides.ensures.far) in
     let put = cut_at_first laws c.args.a.now c.args.b.now sides.near sides.far cut.below cut.above key val cut.middle is c.requires.first c.requires.second cut.ensures.below cut.ensures.above cut.ensures.middle in
-    let less = smaller g.A.Key.Ord.cmp c.args.a.now.entries c.args.b.now.entries sides.near.entries sides.far.entries cut.below.entries cut.above.entries (key, val) key is cut.ensures.below cut.ensures.above in
+    let less = smaller g.M.Key.Ord.cmp c.args.a.now.entries c.args.b.now.entries sides.near.entries sides.far.entries cut.below.entries cut.above.entries (key, val) key is cut.ensures.below cut.ensures.above in
     (put, tt, tt, less.0, less.1)

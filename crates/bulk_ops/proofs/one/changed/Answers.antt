@@ -3,5 +3,5 @@ use Rattle.bulk_ops.proofs.one.changed.Goals as goal
 
 pub returns-in-None : goal.returns-in-None
 returns-in-None g c =
-    let split = drop_key-split g.met.A.Key.Ord.total g.met.A.Key.Key.exact c.args.tree.now.entries c.args.key.now c.size-size.ensures.increasing in
+    let split = drop_key-split g.met.M.Key.Ord.total g.met.M.Key.Key.exact c.args.tree.now.entries c.args.key.now c.size-size.ensures.increasing in
     rw c.in-None.is (rw split at c.del.ensures.entries)

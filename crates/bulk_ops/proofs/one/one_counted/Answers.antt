@@ -7,7 +7,7 @@ use Rattle.bulk_ops.proofs.one.one_counted.Goals as goal
 
 pub returns-then-keeps_first : goal.returns-then-keeps_first
 returns-then-keeps_first g c =
-    let order = g.A.Key.Ord.cmp in
+    let order = g.M.Key.Ord.cmp in
     let tree = c.args.tree.now.entries in
     let key = c.args.entry.now.0 in
     let kept = g.W.Combination.kept c.args.how.now in
@@ -17,7 +17,7 @@ returns-then-keeps_first g c =
 
 pub returns : goal.returns
 returns g c =
-    let order = g.A.Key.Ord.cmp in
+    let order = g.M.Key.Ord.cmp in
     let tree = c.args.tree.now.entries in
     let key = c.args.entry.now.0 in
     let kept = g.W.Combination.kept c.args.how.now in

@@ -9,7 +9,7 @@ use Rattle.bulk_passes.proofs.block.image_next.Goals as goal
 
 pub returns-clause-value : goal.returns-clause-value
 returns-clause-value g t =
-    let laws = g.met.M.Reduce in
+    let laws = g.met.W.Reduce in
     let how = t.args.how.now in
     let entries = g.L.Leaf.entries t.args.leaf.now in
     let at = t.args.walk.now.index in

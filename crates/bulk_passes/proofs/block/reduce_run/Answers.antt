@@ -7,7 +7,7 @@ use Rattle.bulk_passes.proofs.block.reduce_run.Goals as goal
 
 pub loop-at-preserved : goal.loop-at-preserved
 loop-at-preserved g c =
-    let laws = g.met.M.Reduce in
+    let laws = g.met.W.Reduce in
     let how = c.args.how.now in
     let entries = g.L.Leaf.entries c.args.leaf.now in
     let start = c.args.walk.now.index in
@@ -17,8 +17,8 @@ loop-at-preserved g c =
     let one = take 1 (drop (start + at) entries) in
     let whole : take (at + 1) (drop start entries) ≡ front ++ one =
     take-add at 1 (drop start entries) ∙ ap (λ x. front ++ take 1 x) (drop-drop at start entries) in
-    let reduced = reduce (g.M.Reduce.image_of how) (g.M.Reduce.unit_of how) (g.M.Reduce.combined how) in
-    let joined : reduced (front ++ one) ≡ g.M.Reduce.combined how (reduced front) (reduced one) = fold-append (laws.monoid how) (laws.image_fits how) front one in
-    let more : reduced (take (at + 1) (drop start entries)) ≡ g.M.Reduce.combined how c.loop-at.out c.in_ok-image.image =
+    let reduced = reduce (g.W.Reduce.image_of how) (g.W.Reduce.unit_of how) (g.W.Reduce.combined how) in
+    let joined : reduced (front ++ one) ≡ g.W.Reduce.combined how (reduced front) (reduced one) = fold-append (laws.monoid how) (laws.image_fits how) front one in
+    let more : reduced (take (at + 1) (drop start entries)) ≡ g.W.Reduce.combined how c.loop-at.out c.in_ok-image.image =
     rw (whole, c.loop-at.invariant.0, rw index at c.in_ok-image.ensures.value) joined in
     (rw (more, c.in_ok-out-2.ensures) refl, omega (arith, c.in_ok-image.ensures.moved, index), c.in_ok-image.ensures.place)

@@ -9,11 +9,11 @@ returns-in-Block g t c = rw c.in-Block.ensures.top.entries_are c.filter_leaf.ens
 
 pub returns-in_ok-push_passing-in-Node : goal.returns-in_ok-push_passing-in-Node
 returns-in_ok-push_passing-in-Node g t c =
-    let p = λ (e : g.row.A-Key.Denot × g.row.A-Val.Denot). g.T.Test.passes c.args.test.now e.0 e.1 in
+    let p = λ (e : g.row.M-Key.Denot × g.row.M-Val.Denot). g.T.Test.passes c.args.test.now e.0 e.1 in
     let before = c.args.out.now.items in
     let left = c.in-Node.left.now.entries in
     let right = c.in-Node.right.now.entries in
-    let entry : g.row.A-Key.Denot × g.row.A-Val.Denot = (c.in-Node.key.now, c.in-Node.val.now) in
+    let entry : g.row.M-Key.Denot × g.row.M-Val.Denot = (c.in-Node.key.now, c.in-Node.val.now) in
     let parts : filter p c.args.part.tree.now.entries ≡ filter p left ++ (filter p (entry ∷ []) ++ filter p right) =
     ap (filter p) c.in-Node.ensures.top.entries_are ∙ filter-append p left (entry ∷ right) ∙ ap (λ x. filter p left ++ x) (filter-append p (entry ∷ []) right) in
     let whole : c.push_passing.new.out.items ++ filter p right ≡ before ++ filter p c.args.part.tree.now.entries =

@@ -6,14 +6,14 @@ answer_of-requires-sync-L g c κs within = record { shared = c.type_bounds.sync-
 pub answer_of-requires-sync-R : goal.answer_of-requires-sync-R
 answer_of-requires-sync-R g c κs within = record { shared = c.type_bounds.sync-R.shared }
 
-pub tree-first-requires-sync-L : goal.tree-first-requires-sync-L
-tree-first-requires-sync-L g c κs within = record { shared = c.type_bounds.sync-L.shared }
+pub built-first-requires-sync-L : goal.built-first-requires-sync-L
+built-first-requires-sync-L g c κs within = record { shared = c.type_bounds.sync-L.shared }
 
-pub tree-first-requires-sync-R : goal.tree-first-requires-sync-R
-tree-first-requires-sync-R g c κs within = record { shared = c.type_bounds.sync-R.shared }
+pub built-first-requires-sync-R : goal.built-first-requires-sync-R
+built-first-requires-sync-R g c κs within = record { shared = c.type_bounds.sync-R.shared }
 
-pub tree-second-requires-sync-L : goal.tree-second-requires-sync-L
-tree-second-requires-sync-L g c κs within = record { shared = c.type_bounds.sync-L.shared }
+pub built-second-requires-sync-L : goal.built-second-requires-sync-L
+built-second-requires-sync-L g c κs within = record { shared = c.type_bounds.sync-L.shared }
 
-pub tree-second-requires-sync-R : goal.tree-second-requires-sync-R
-tree-second-requires-sync-R g c κs within = record { shared = c.type_bounds.sync-R.shared }
+pub built-second-requires-sync-R : goal.built-second-requires-sync-R
+built-second-requires-sync-R g c κs within = record { shared = c.type_bounds.sync-R.shared }

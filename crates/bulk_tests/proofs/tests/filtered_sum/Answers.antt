@@ -1,7 +1,7 @@
 use Rattle.bulk_tests.proofs.tests.filtered_sum.Goals as goal
 
-pub tree-all-requires-sync-L : goal.tree-all-requires-sync-L
-tree-all-requires-sync-L g c κs within = record { shared = c.type_bounds.sync-L.shared }
+pub built-all-requires-sync-L : goal.built-all-requires-sync-L
+built-all-requires-sync-L g c κs within = record { shared = c.type_bounds.sync-L.shared }
 
-pub tree-all-requires-sync-R : goal.tree-all-requires-sync-R
-tree-all-requires-sync-R g c κs within = record { shared = c.type_bounds.sync-R.shared }
+pub built-all-requires-sync-R : goal.built-all-requires-sync-R
+built-all-requires-sync-R g c κs within = record { shared = c.type_bounds.sync-R.shared }

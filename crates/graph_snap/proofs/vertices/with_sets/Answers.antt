@@ -11,14 +11,14 @@ returns-clause-sets g c = IfOk-weaker c.union.result _ _ (λ map h. subst AreSet
 pub returns-clause-edges : goal.returns-clause-edges
 returns-clause-edges g c = IfOk-weaker c.union.result _ _ (λ map h. ap edges_of h ∙ edges-both c.args.vertices.now.entries c.args.batch.now.entries c.requires.vertices c.requires.batch) c.union.ensures
 
-pub union-requires-send-L : goal.union-requires-send-L
-union-requires-send-L g c κs within = record { owned = block_sent.owned; leaving = block_sent.leaving }
+pub union-requires-send-M-Leaf : goal.union-requires-send-M-Leaf
+union-requires-send-M-Leaf g c κs within = record { owned = block_sent.owned; leaving = block_sent.leaving }
 
-pub union-requires-sync-L : goal.union-requires-sync-L
-union-requires-sync-L g c κs within = record { shared = block_sync.shared }
+pub union-requires-sync-M-Leaf : goal.union-requires-sync-M-Leaf
+union-requires-sync-M-Leaf g c κs within = record { shared = block_sync.shared }
 
-pub union-requires-send-A-Val : goal.union-requires-send-A-Val
-union-requires-send-A-Val g c κs within = record { owned = set_sent.owned; leaving = set_sent.leaving }
+pub union-requires-send-M-Val : goal.union-requires-send-M-Val
+union-requires-send-M-Val g c κs within = record { owned = set_sent.owned; leaving = set_sent.leaving }
 
-pub union-requires-sync-A-Val : goal.union-requires-sync-A-Val
-union-requires-sync-A-Val g c κs within = record { shared = set_sync.shared }
+pub union-requires-sync-M-Val : goal.union-requires-sync-M-Val
+union-requires-sync-M-Val g c κs within = record { shared = set_sync.shared }

@@ -11,14 +11,14 @@ returns-clause-sets g c = IfOk-weaker c.union_into.result _ _ (λ map h. subst A
 pub returns-clause-edges : goal.returns-clause-edges
 returns-clause-edges g c = IfOk-weaker c.union_into.result _ _ (λ map h. ap edges_of h ∙ edges-both c.args.vertices.entries c.args.batch.now c.requires.vertices c.requires.batch) c.union_into.ensures
 
-pub union_into-requires-send-L : goal.union_into-requires-send-L
-union_into-requires-send-L g c κs within = record { owned = block_sent.owned; leaving = block_sent.leaving }
+pub union_into-requires-send-M-Leaf : goal.union_into-requires-send-M-Leaf
+union_into-requires-send-M-Leaf g c κs within = record { owned = block_sent.owned; leaving = block_sent.leaving }
 
-pub union_into-requires-sync-L : goal.union_into-requires-sync-L
-union_into-requires-sync-L g c κs within = record { shared = block_sync.shared }
+pub union_into-requires-sync-M-Leaf : goal.union_into-requires-sync-M-Leaf
+union_into-requires-sync-M-Leaf g c κs within = record { shared = block_sync.shared }
 
-pub union_into-requires-send-A-Val : goal.union_into-requires-send-A-Val
-union_into-requires-send-A-Val g c κs within = record { owned = set_sent.owned; leaving = set_sent.leaving }
+pub union_into-requires-send-M-Val : goal.union_into-requires-send-M-Val
+union_into-requires-send-M-Val g c κs within = record { owned = set_sent.owned; leaving = set_sent.leaving }
 
-pub union_into-requires-sync-A-Val : goal.union_into-requires-sync-A-Val
-union_into-requires-sync-A-Val g c κs within = record { shared = set_sync.shared }
+pub union_into-requires-sync-M-Val : goal.union_into-requires-sync-M-Val
+union_into-requires-sync-M-Val g c κs within = record { shared = set_sync.shared }

@@ -16,14 +16,14 @@ returns g c =
     let made = built_sets changed c.deref.result.now c.in_ok-batch.batch.entries c.in_ok-changed.ensures.sets c.deref.ensures.value c.in_ok-batch.ensures in
     removed c.self.inside.vertices.entries changed c.in_ok-batch.batch.entries c.args.self.now (pairs_of c.args.list.now) (edges_of c.in_ok-vertices.vertices.entries) c.self.view_is c.self.invariant.0 made c.in_ok-changed.ensures.edges c.in_ok-vertices.ensures.edges
 
-pub build-requires-send-L : goal.build-requires-send-L
-build-requires-send-L g c κs within = record { owned = block_sent.owned; leaving = block_sent.leaving }
+pub build-requires-send-M-Leaf : goal.build-requires-send-M-Leaf
+build-requires-send-M-Leaf g c κs within = record { owned = block_sent.owned; leaving = block_sent.leaving }
 
-pub build-requires-sync-L : goal.build-requires-sync-L
-build-requires-sync-L g c κs within = record { shared = block_sync.shared }
+pub build-requires-sync-M-Leaf : goal.build-requires-sync-M-Leaf
+build-requires-sync-M-Leaf g c κs within = record { shared = block_sync.shared }
 
-pub build-requires-send-A-Val : goal.build-requires-send-A-Val
-build-requires-send-A-Val g c κs within = record { owned = set_sent.owned; leaving = set_sent.leaving }
+pub build-requires-send-M-Val : goal.build-requires-send-M-Val
+build-requires-send-M-Val g c κs within = record { owned = set_sent.owned; leaving = set_sent.leaving }
 
-pub build-requires-sync-A-Val : goal.build-requires-sync-A-Val
-build-requires-sync-A-Val g c κs within = record { shared = set_sync.shared }
+pub build-requires-sync-M-Val : goal.build-requires-sync-M-Val
+build-requires-sync-M-Val g c κs within = record { shared = set_sync.shared }

@@ -1,0 +1,8 @@
+use denote.Param.Send.{sendable}
+use Rattle.std.proofs.Crossing.{crosses as std_crosses}
+use Rattle.tree_shape.proofs.tree.Tree.TheLaws.TheKnot.{both_sync-Tree as tree_sync}
+use Rattle.tree_shape.proofs.tree.Block.TheSendSync as Block
+use Rattle.aug_map.proofs.map.Map.map_reduce.Goals as goal
+
+pub divide-requires-send-P : goal.divide-requires-send-P
+divide-requires-send-P g c κs within = search (sendable, std_crosses, tree_sync, Block.the_send, Block.the_sync) depth 20

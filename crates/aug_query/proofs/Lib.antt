@@ -1,7 +1,0 @@
-pub mod Blocks
-pub mod Costs
-pub mod Firsts
-pub mod Nodes
-pub mod Ranges
-pub mod Sides
-pub mod Walks

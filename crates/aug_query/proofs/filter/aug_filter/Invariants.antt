@@ -1,4 +1,0 @@
-use Rattle.aug_query.proofs.filter.aug_filter.Given as goal
-
-abbrev pub ghosts-filter_counted : goal.ghosts-filter_counted
-ghosts-filter_counted g a = record { name = a.blank.name; parts = a.blank.parts }

@@ -1,5 +1,0 @@
-use Rattle.std.proofs.Common.{length}
-use Rattle.aug_query.proofs.parts.+keep_span.Given as goal
-
-abbrev pub decreases-keep_span : goal.decreases-keep_span
-decreases-keep_span g l = length l.span.tree.now.entries

@@ -1,5 +1,0 @@
-use Rattle.std.proofs.Common.{length}
-use Rattle.aug_query.proofs.project.+project_span.Given as goal
-
-abbrev pub decreases-project_span : goal.decreases-project_span
-decreases-project_span g l = length l.span.tree.now.entries

@@ -1,4 +1,0 @@
-use Rattle.batch_ops.proofs.deleting.entries_at.Given as goal
-
-abbrev pub ghosts-entries_counted : goal.ghosts-entries_counted
-ghosts-entries_counted g a = record { name = a.blank.name; parts = a.blank.parts }

@@ -1,8 +1,0 @@
-use denote.Param.Send.{sendable}
-use Rattle.std.proofs.Crossing.{crosses as std_crosses}
-use Rattle.tree_base.proofs.tree.TreeOver.TheLaws.TheKnot.{both_send-TreeOver as tree_send}
-use Rattle.tree_base.proofs.tree.Block.TheSendSync as Block
-use Rattle.bulk_passes.proofs.planting.plant.Goals as goal
-
-pub divide-requires-send-O : goal.divide-requires-send-O
-divide-requires-send-O g c κs within = search (sendable, std_crosses, tree_send, Block.the_send, Block.the_sync) depth 20

@@ -1,5 +1,0 @@
-use Rattle.std.proofs.Common.{length}
-use Rattle.join_core.proofs.joins.+join_beside.Given as goal
-
-abbrev pub decreases-join_beside : goal.decreases-join_beside
-decreases-join_beside g l = length l.heavy.tree.now.entries

@@ -1,7 +1,0 @@
-use Rattle.map_model.proofs.Keys.{IsIncreasing-around}
-use Rattle.join_core.proofs.joins.join_owned.Goals as goal
-
-pub link_owned-requires-clause-increasing : goal.link_owned-requires-clause-increasing
-link_owned-requires-clause-increasing g c =
-    let total = g.met.A.Key.Ord.total in
-    IsIncreasing-around total c.args.left.entries c.args.key c.args.val c.args.right.entries (record { left = c.size.ensures.increasing; right = c.size-2.ensures.increasing; lower = c.requires.below; upper = c.requires.above })

@@ -1,4 +1,0 @@
-use Rattle.shape_tests.proofs.tests.growing.rising.Goals as goal
-
-pub loop-key-preserved : goal.loop-key-preserved
-loop-key-preserved g c = tt

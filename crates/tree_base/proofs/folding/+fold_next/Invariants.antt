@@ -1,4 +1,0 @@
-use Rattle.tree_base.proofs.folding.+fold_next.Given as goal
-
-abbrev pub decreases-fold_next : goal.decreases-fold_next
-decreases-fold_next g l = l.count

@@ -1,4 +1,0 @@
-use Rattle.tree_base.proofs.tree.TreeOver.+take_last.Given as goal
-
-abbrev pub decreases-take_last : goal.decreases-take_last
-decreases-take_last g l = l.count

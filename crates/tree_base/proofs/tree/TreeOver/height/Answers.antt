@@ -1,6 +1,0 @@
-use Rattle.tree_base.proofs.tree.TreeOver.height.Goals as goal
-
-pub returns-in-Node-clause-law : goal.returns-in-Node-clause-law
-returns-in-Node-clause-law g c =
-    let is = rw c.in-Node.is at c.self.invariant in
-    rw (← c.self.view_is, c.in-Node.is) (rw is.size_is at is.law)

@@ -1,6 +1,0 @@
-mod Costs
-mod Owned
-mod Sides
-mod Changed
-mod PutNodes
-mod DelNodes

@@ -1,4 +1,0 @@
-use Rattle.tree_making.proofs.listing.tree_of_slice.Given as goal
-
-abbrev pub ghosts-tree_of_slice_counted : goal.ghosts-tree_of_slice_counted
-ghosts-tree_of_slice_counted g a = record { name = a.blank.name; parts = a.blank.parts }
