@@ -19,7 +19,7 @@ pub fn put(alloc: Global, map: &mut Handle, key: u64, val: u64) -> u8
     let Some(mut kept) = take(alloc, map) else {
         return BAD_CALL;
     };
-    let status = match kept.map.insert(alloc, key, val) {
+    let status = match kept.map.put(alloc, key, val) {
         Ok(()) => OK,
         Err(_) => NO_MEMORY,
     };
@@ -46,7 +46,7 @@ fn removed(alloc: Global, kept: &mut Inner, key: u64) -> u8
     ensures removed { (lookup nat_cmp kept.old key ≡ None → ⊥) → ((result ≡ 0) × (kept.new ≡ drop_key nat_cmp kept.old key)) ⊎ ((result ≡ 7) × (kept.new ≡ kept.old)) }
 {
     match kept.map.get(alloc, &key) {
-        Ok(Some(_)) => match kept.map.remove(alloc, &key) {
+        Ok(Some(_)) => match kept.map.del(alloc, &key) {
             Ok(()) => OK,
             Err(_) => NO_MEMORY,
         },

@@ -1,11 +1,13 @@
 //! Calls that count their steps, each with a counter of its own.
-ghost use Rattle.std.specs.Prelude.{◌≡◌, ◌<◌, IfOk, IsOk, OnErr};
+ghost use Rattle.std.specs.Prelude.{◌≡◌, [], ◌∷◌, IfOk, IsOk, OnErr};
 ghost use Rattle.map_model.specs.Entries.{drop_key, lookup, set};
-ghost use Rattle.map_model.specs.Fold.{range_fold};
-ghost use Rattle.map_model.specs.Parts.{next, prev, rank};
+ghost use Rattle.map_model.specs.Fold.{fold_of, range_fold};
+ghost use Rattle.map_model.specs.Parts.{left_of, next, prev, rank, right_of};
+ghost use Rattle.map_model.specs.SetOperations.{union};
+ghost use Rattle.aug_monoid.specs.Fresh.{IsFresh};
 
 use aug_map::PlainMap;
-use aug_monoid::{Augment, NoMemory, Steps};
+use aug_monoid::{Augment, NoMemory, Resolve, Steps};
 use std::alloc::Global;
 use std::sync::ledger::{Blank, Ledger};
 
@@ -16,9 +18,7 @@ pub(crate) fn get<A: Augment, C: Ledger>(
     key: &A::Key,
     blank: Blank,
 ) -> Result<Option<A::Val>, NoMemory>
-    requires name { blank.name ≡ C.name }
-    requires parts { blank.parts ≡ C.parts }
-    requires some { 0 < blank.parts }
+    requires { IsFresh C.name C.parts blank }
     ensures value { IfOk result (λ val. val ≡ lookup A.Key.cmp map.now.entries key.now) }
     ensures succeeds { A.Key.never_refuses → A.Val.never_refuses → IsOk result }
 {
@@ -34,14 +34,29 @@ pub(crate) fn put<A: Augment, C: Ledger>(
     val: A::Val,
     blank: Blank,
 ) -> Result<(), NoMemory>
-    requires name { blank.name ≡ C.name }
-    requires parts { blank.parts ≡ C.parts }
-    requires some { 0 < blank.parts }
+    requires { IsFresh C.name C.parts blank }
     ensures entries { IfOk result (λ _. map.new.entries ≡ set A.Key.cmp map.old.entries key val) }
     ensures kept { OnErr result (map.new ≡ map.old) }
 {
     let mut steps = Steps::<C>::start(blank);
     map.put_mut(alloc, key, val, &mut steps)
+}
+
+/// Sets a key to what `how` makes of its value and the given one.
+pub(crate) fn put_with<A: Augment, H: Resolve<A::Val>, C: Ledger>(
+    alloc: Global,
+    map: &mut PlainMap<A>,
+    key: A::Key,
+    val: A::Val,
+    how: &H,
+    blank: Blank,
+) -> Result<(), NoMemory>
+    requires { IsFresh C.name C.parts blank }
+    ensures entries { IfOk result (λ _. map.new.entries ≡ union A.Key.cmp (H.resolved how.now) map.old.entries ((key, val) ∷ [])) }
+    ensures kept { OnErr result (map.new ≡ map.old) }
+{
+    let mut steps = Steps::<C>::start(blank);
+    map.put_with(alloc, key, val, how, &mut steps)
 }
 
 /// Removes a key.
@@ -51,9 +66,7 @@ pub(crate) fn del<A: Augment, C: Ledger>(
     key: &A::Key,
     blank: Blank,
 ) -> Result<(), NoMemory>
-    requires name { blank.name ≡ C.name }
-    requires parts { blank.parts ≡ C.parts }
-    requires some { 0 < blank.parts }
+    requires { IsFresh C.name C.parts blank }
     ensures entries { IfOk result (λ _. map.new.entries ≡ drop_key A.Key.cmp map.old.entries key.now) }
     ensures kept { OnErr result (map.new ≡ map.old) }
 {
@@ -69,9 +82,7 @@ pub(crate) fn range_fold<A: Augment, C: Ledger>(
     hi: &A::Key,
     blank: Blank,
 ) -> Result<A::Aug, NoMemory>
-    requires name { blank.name ≡ C.name }
-    requires parts { blank.parts ≡ C.parts }
-    requires some { 0 < blank.parts }
+    requires { IsFresh C.name C.parts blank }
     ensures value { IfOk result (λ aug. aug ≡ range_fold A.Key.cmp A.base_of A.unit_of A.combined map.now.entries lo.now hi.now) }
     ensures succeeds { A.never_refuses → IsOk result }
 {
@@ -79,11 +90,39 @@ pub(crate) fn range_fold<A: Augment, C: Ledger>(
     map.aug_range(alloc, lo, hi, &mut steps)
 }
 
+/// The fold of the entries with keys at most `key`.
+pub(crate) fn left_fold<A: Augment, C: Ledger>(
+    alloc: Global,
+    map: &PlainMap<A>,
+    key: &A::Key,
+    blank: Blank,
+) -> Result<A::Aug, NoMemory>
+    requires { IsFresh C.name C.parts blank }
+    ensures value { IfOk result (λ aug. aug ≡ fold_of A.base_of A.unit_of A.combined (left_of A.Key.cmp map.now.entries key.now)) }
+    ensures succeeds { A.never_refuses → IsOk result }
+{
+    let mut steps = Steps::<C>::start(blank);
+    map.aug_left(alloc, key, &mut steps)
+}
+
+/// The fold of the entries with keys at least `key`.
+pub(crate) fn right_fold<A: Augment, C: Ledger>(
+    alloc: Global,
+    map: &PlainMap<A>,
+    key: &A::Key,
+    blank: Blank,
+) -> Result<A::Aug, NoMemory>
+    requires { IsFresh C.name C.parts blank }
+    ensures value { IfOk result (λ aug. aug ≡ fold_of A.base_of A.unit_of A.combined (right_of A.Key.cmp map.now.entries key.now)) }
+    ensures succeeds { A.never_refuses → IsOk result }
+{
+    let mut steps = Steps::<C>::start(blank);
+    map.aug_right(alloc, key, &mut steps)
+}
+
 /// How many keys are less.
 pub(crate) fn rank<A: Augment, C: Ledger>(map: &PlainMap<A>, key: &A::Key, blank: Blank) -> u64
-    requires name { blank.name ≡ C.name }
-    requires parts { blank.parts ≡ C.parts }
-    requires some { 0 < blank.parts }
+    requires { IsFresh C.name C.parts blank }
     ensures { result ≡ rank A.Key.cmp map.now.entries key.now }
 {
     let mut steps = Steps::<C>::start(blank);
@@ -97,9 +136,7 @@ pub(crate) fn next<A: Augment, C: Ledger>(
     key: &A::Key,
     blank: Blank,
 ) -> Result<Option<(A::Key, A::Val)>, NoMemory>
-    requires name { blank.name ≡ C.name }
-    requires parts { blank.parts ≡ C.parts }
-    requires some { 0 < blank.parts }
+    requires { IsFresh C.name C.parts blank }
     ensures value { IfOk result (λ entry. entry ≡ next A.Key.cmp map.now.entries key.now) }
     ensures succeeds { A.Key.never_refuses → A.Val.never_refuses → IsOk result }
 {
@@ -114,9 +151,7 @@ pub(crate) fn prev<A: Augment, C: Ledger>(
     key: &A::Key,
     blank: Blank,
 ) -> Result<Option<(A::Key, A::Val)>, NoMemory>
-    requires name { blank.name ≡ C.name }
-    requires parts { blank.parts ≡ C.parts }
-    requires some { 0 < blank.parts }
+    requires { IsFresh C.name C.parts blank }
     ensures value { IfOk result (λ entry. entry ≡ prev A.Key.cmp map.now.entries key.now) }
     ensures succeeds { A.Key.never_refuses → A.Val.never_refuses → IsOk result }
 {

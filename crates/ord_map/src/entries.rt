@@ -1,6 +1,7 @@
-//! Single entries.
-ghost use Rattle.std.specs.Prelude.{◌≡◌, IfOk, IsOk, OnErr};
-ghost use Rattle.map_model.specs.Entries.{drop_key, lookup, set};
+//! What stands at a key, at a place, and beside a key.
+ghost use Rattle.std.specs.Prelude.{◌≡◌, IfOk, IsOk, is_some};
+ghost use Rattle.std.specs.Option.{unwrap_or};
+ghost use Rattle.map_model.specs.Entries.{lookup};
 ghost use Rattle.map_model.specs.Parts.{next, prev, rank, select};
 ghost use Rattle.ord_map.specs.Ends.{last};
 
@@ -23,28 +24,20 @@ impl<A: Augment> OrdMap<A> {
         counters::get::<A, Brand>(alloc, &self.map, key, Blank::new(1))
     }
 
-    /// Sets a key to a value, in O(log n). Where the `Augment` is total, a node or block that no other map has part in is changed
-    /// where it stands, if the node stays balanced; from the first one on that can't be, the path is copied.
-    ///
-    ///     let old = map.share(alloc)?;
-    ///     map.insert(alloc, 1, 11)?;     // `old` has what it had
-    pub fn insert(&mut self, alloc: Global, key: A::Key, val: A::Val) -> Result<(), NoMemory>
-        ensures entries { IfOk result (λ _. self.new ≡ set A.Key.cmp self.old key val) }
-        ensures kept { OnErr result (self.new ≡ self.old) }
+    /// Whether the key is there, in O(log n). It makes a share of the key's value, and refuses where that refuses.
+    pub fn contains_key(&self, alloc: Global, key: &A::Key) -> Result<bool, NoMemory>
+        ensures value { IfOk result (λ yes. yes ≡ is_some (lookup A.Key.cmp self.now key.now)) }
+        ensures succeeds { A.Key.never_refuses → A.Val.never_refuses → IsOk result }
     {
-        counters::put::<A, Brand>(alloc, &mut self.map, key, val, Blank::new(1))
+        Ok(self.get(alloc, key)?.is_some())
     }
 
-    /// Removes a key, which the map need not have, in O(log n): where it stands in the same cases as `insert`, but for the entry of
-    /// a node, which always goes by a copy.
-    ///
-    ///     map.remove(alloc, &1)?;
-    ///     map.get(alloc, &1)?     // None
-    pub fn remove(&mut self, alloc: Global, key: &A::Key) -> Result<(), NoMemory>
-        ensures entries { IfOk result (λ _. self.new ≡ drop_key A.Key.cmp self.old key.now) }
-        ensures kept { OnErr result (self.new ≡ self.old) }
+    /// The value at a key, or `default` where the key is not there, in O(log n).
+    pub fn get_or(&self, alloc: Global, key: &A::Key, default: A::Val) -> Result<A::Val, NoMemory>
+        ensures value { IfOk result (λ val. val ≡ unwrap_or (lookup A.Key.cmp self.now key.now) default) }
+        ensures succeeds { A.Key.never_refuses → A.Val.never_refuses → IsOk result }
     {
-        counters::del::<A, Brand>(alloc, &mut self.map, key, Blank::new(1))
+        Ok(self.get(alloc, key)?.unwrap_or(default))
     }
 
     /// The entry with the least key, in O(log n); none exactly where there are no entries.

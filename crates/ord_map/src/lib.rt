@@ -3,19 +3,27 @@
 //! An `OrdMap` is a map of `aug_map` in plain blocks of 32 to 64 entries. Its calls count no steps and start no thread, and want
 //! nothing but the allocator. Contracts see it as its entries in the order of their keys. A share of a map costs no more than a
 //! pointer, and no change of one is seen in the other. `NoMemory` is the one refusal, also where the `Augment` refuses, and a
-//! refused change leaves the map as it was. Who wants bounds on steps, threads or coded blocks takes `aug_map`.
+//! refused change leaves the map as it was. Who wants bounds on steps, threads or coded blocks takes `aug_map`: `as_map` and
+//! `from_map` lead there and back.
 //!
 //!     let mut map: OrdMap<SumMax<u64>> = OrdMap::from_pairs(alloc, &[(2, 20), (1, 10)])?;
-//!     map.insert(alloc, 3, 30)?;
+//!     map.put(alloc, 3, 30)?;
 //!     map.fold_range(alloc, &2, &3)?.sum     // 50
 //!
 //! Tests: `map_tests`. Wrong bodies: here, in `wrong-bodies/`.
 #![tactic(auto)]
 
+mod bridge;
+mod changes;
 mod counters;
+mod ends;
 mod entries;
+mod lists;
 mod map;
+mod nearest;
 mod parts;
+mod passes;
+mod updates;
 mod wholes;
 
 pub use map::{Iter, OrdMap};

@@ -3,20 +3,14 @@ ghost use Rattle.std.specs.Prelude.{◌≡◌, ◌<◌, ◌^◌, ◌↔◌, [], 
 ghost use Rattle.map_model.specs.Entries.{IsIncreasing};
 ghost use Rattle.map_model.specs.Fold.{fold_of};
 
-use aug_map::{CursorOver, PlainMap};
+use aug_map::PlainMap;
+use aug_map::shaped::{Cursor, Plain};
 use aug_monoid::{Augment, NoMemory, Share};
-use leaf_blocks::PlainLeaf;
 use std::alloc::Global;
 use std::marker::Model;
-use tree_base::Width;
 
 /// The entries of a map in the order of their keys: one item an entry, a share of it or a refusal of that share.
-pub type Iter<'a, A> = CursorOver<
-    'a,
-    A,
-    PlainLeaf<<A as Augment>::Key, <A as Augment>::Val>,
-    Width<32>,
->;
+pub type Iter<'a, A> = Cursor<'a, Plain<A>>;
 
 /// A persistent ordered map with the fold of its entries.
 pub struct OrdMap<A: Augment> {
@@ -77,6 +71,15 @@ impl<A: Augment> OrdMap<A> {
         ensures { result ≡ self.now }
     {
         self.map.cursor(alloc)
+    }
+}
+
+impl<A: Augment> Default for OrdMap<A> {
+    ghost is_default = { λ m. m ≡ [] };
+
+    /// The map with no entries.
+    fn default() -> OrdMap<A> {
+        OrdMap::new()
     }
 }
 

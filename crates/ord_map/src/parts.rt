@@ -1,8 +1,8 @@
 //! Parts of a map, and folds of them.
 ghost use Rattle.std.specs.Prelude.{◌≡◌, IfOk, IsOk, OnErr};
 ghost use Rattle.map_model.specs.Entries.{above, below};
-ghost use Rattle.map_model.specs.Fold.{range_fold};
-ghost use Rattle.map_model.specs.Parts.{right_of, slice};
+ghost use Rattle.map_model.specs.Fold.{fold_of, range_fold};
+ghost use Rattle.map_model.specs.Parts.{left_of, right_of, slice};
 
 use crate::counters;
 use crate::map::OrdMap;
@@ -55,5 +55,23 @@ impl<A: Augment> OrdMap<A> {
         ensures succeeds { A.never_refuses → IsOk result }
     {
         counters::range_fold::<A, Brand>(alloc, &self.map, lo, hi, Blank::new(1))
+    }
+
+    /// The fold of the entries with keys at most `key`, in O(log n), and the `Augment`'s unit where there are none. It refuses
+    /// nothing where the `Augment` never refuses.
+    pub fn fold_to(&self, alloc: Global, key: &A::Key) -> Result<A::Aug, NoMemory>
+        ensures value { IfOk result (λ aug. aug ≡ fold_of A.base_of A.unit_of A.combined (left_of A.Key.cmp self.now key.now)) }
+        ensures succeeds { A.never_refuses → IsOk result }
+    {
+        counters::left_fold::<A, Brand>(alloc, &self.map, key, Blank::new(1))
+    }
+
+    /// The fold of the entries with keys at least `key`, in O(log n), and the `Augment`'s unit where there are none. It refuses
+    /// nothing where the `Augment` never refuses.
+    pub fn fold_from(&self, alloc: Global, key: &A::Key) -> Result<A::Aug, NoMemory>
+        ensures value { IfOk result (λ aug. aug ≡ fold_of A.base_of A.unit_of A.combined (right_of A.Key.cmp self.now key.now)) }
+        ensures succeeds { A.never_refuses → IsOk result }
+    {
+        counters::right_fold::<A, Brand>(alloc, &self.map, key, Blank::new(1))
     }
 }

@@ -1,12 +1,13 @@
 //! Whole maps: of pairs, of two maps, and of the entries that pass a test.
-ghost use Rattle.std.specs.Prelude.{◌≡◌, IfOk, OnErr};
+ghost use Rattle.std.specs.Prelude.{◌≡◌, ◌↔◌, [], IfOk, IsTrue, OnErr};
 ghost use Rattle.map_model.specs.Operations.{after, build, puts};
 ghost use Rattle.map_model.specs.SetOperations.{difference, intersect, union};
 ghost use Rattle.std.specs.List.{filter as filtered};
+ghost use Rattle.ord_map.specs.Apart.{symmetric_difference};
 
 use crate::map::OrdMap;
 use aug_map::PlainMap;
-use aug_monoid::{Augment, NoMemory, Resolve, Second, Test};
+use aug_monoid::{Augment, First, NoMemory, Resolve, Second, Test};
 use std::alloc::Global;
 
 impl<A: Augment> OrdMap<A> {
@@ -72,6 +73,38 @@ impl<A: Augment> OrdMap<A> {
     {
         let map = self.map.difference_alone(alloc, &other.map)?;
         Ok(OrdMap { map })
+    }
+
+    /// The entries of either map whose keys the other hasn't, in the time of `union`.
+    pub fn symmetric_difference(
+        &self,
+        alloc: Global,
+        other: &OrdMap<A>,
+    ) -> Result<OrdMap<A>, NoMemory>
+        ensures { IfOk result (λ either. either ≡ symmetric_difference A.Key.cmp self.now other.now) }
+    {
+        let here = self.map.difference_alone(alloc, &other.map)?;
+        let there = other.map.difference_alone(alloc, &self.map)?;
+        let map = here.union_alone(alloc, &there, &First)?;
+        Ok(OrdMap { map })
+    }
+
+    /// Whether `other` has all keys that this map has, in the time of `union`. It makes the map of those that `other` hasn't, and
+    /// refuses for want of memory.
+    pub fn is_subset(&self, alloc: Global, other: &OrdMap<A>) -> Result<bool, NoMemory>
+        ensures { IfOk result (λ yes. IsTrue yes ↔ (difference A.Key.cmp self.now other.now ≡ [])) }
+    {
+        let rest = self.map.difference_alone(alloc, &other.map)?;
+        Ok(rest.aug().is_none())
+    }
+
+    /// Whether there is no key that both maps have, in the time of `union`. It makes the map of those that they have, and refuses
+    /// for want of memory.
+    pub fn is_disjoint(&self, alloc: Global, other: &OrdMap<A>) -> Result<bool, NoMemory>
+        ensures { IfOk result (λ yes. IsTrue yes ↔ (intersect A.Key.cmp (λ a _. a) self.now other.now ≡ [])) }
+    {
+        let both = self.map.intersect_alone(alloc, &other.map, &First)?;
+        Ok(both.aug().is_none())
     }
 
     /// Keeps the entries that pass, in O(n).

@@ -1,11 +1,11 @@
 //! Single entries put, removed, taken apart and joined.
-ghost use Rattle.std.specs.Prelude.{◌≡◌, ◌<◌};
+ghost use Rattle.std.specs.Prelude.{◌≡◌};
 ghost use Rattle.std.specs.Ordering.{nat_cmp};
-ghost use Rattle.map_model.specs.Balance.{IsBlockSize};
 ghost use Rattle.map_model.specs.Entries.{above, below};
+ghost use Rattle.aug_monoid.specs.Fresh.{IsFresh};
 
 use super::sums::{Sums, assert_has, assert_made, map_of};
-use aug_map::{MapOver, Parts};
+use aug_map::{Map, Parts};
 use aug_monoid::{Leaf, LeafMut, SatSum, Share, Steps, SumMax};
 use diff_leaf::DiffLeaf;
 use leaf_blocks::PlainLeaf;
@@ -74,10 +74,8 @@ fn assert_united<R: Abort, L: Leaf<u64, u64>, const B: usize>(
     rt: &R,
     alloc: Global,
     map: &Sums<L, B>,
-)
-    requires { IsBlockSize B }
-{
-    let other: Sums<L, B> = MapOver::single(alloc, 4, 5).expect(rt, "memory");
+) {
+    let other: Sums<L, B> = Map::single(alloc, 4, 5).expect(rt, "memory");
     assert_made(rt, alloc, map.union_alone(alloc, &other, &SatSum), WITH_45);
     assert_made(rt, alloc, map.difference_alone(alloc, &other), WITHOUT_4);
 }
@@ -112,9 +110,9 @@ fn assert_joined<R: Abort, L: Leaf<u64, u64>, const B: usize, C: Ledger>(
     let parts = parts_at(rt, alloc, map, key, steps);
     assert_has(rt, alloc, &parts.below, &[(2, 20), (4, 40)]);
     assert_has(rt, alloc, &parts.above, &[(8, 80)]);
-    let around = MapOver::join(alloc, &parts.below, key, 61, &parts.above, steps);
+    let around = Map::join(alloc, &parts.below, key, 61, &parts.above, steps);
     assert_made(rt, alloc, around, TOGETHER);
-    let closed = MapOver::join2(alloc, &parts.below, &parts.above, steps);
+    let closed = Map::join2(alloc, &parts.below, &parts.above, steps);
     assert_made(rt, alloc, closed, CLOSED);
 }
 
@@ -123,9 +121,7 @@ fn assert_all_in<R: Abort, L: LeafMut<u64, u64>, const B: usize, C: Ledger>(
     rt: &R,
     alloc: Global,
     steps: &mut Steps<C>,
-)
-    requires size { IsBlockSize B }
-{
+) {
     let map: Sums<L, B> = map_of(rt, alloc, &ENTRIES, steps);
     assert_changed(rt, alloc, &map, steps);
     assert_changed_in_place(rt, alloc, &map, steps);
@@ -140,9 +136,7 @@ fn assert_all_counted<R: Abort, L: LeafMut<u64, u64>, C: Ledger>(
     alloc: Global,
     blank: Blank,
 )
-    requires name { blank.name ≡ C.name }
-    requires parts { blank.parts ≡ C.parts }
-    requires some { 0 < blank.parts }
+    requires { IsFresh C.name C.parts blank }
 {
     let mut steps = Steps::<C>::start(blank);
     assert_all_in::<R, L, 2, C>(rt, alloc, &mut steps);
@@ -163,9 +157,7 @@ type Told = (u64, u32, u64, Option<u64>);
 
 /// What a map tells: its size, its height, the sum of its values, and the value at a key.
 fn told_counted<R: Abort, L: Leaf<u64, u64>, C: Ledger>(rt: &R, alloc: Global, blank: Blank) -> Told
-    requires name { blank.name ≡ C.name }
-    requires parts { blank.parts ≡ C.parts }
-    requires some { 0 < blank.parts }
+    requires { IsFresh C.name C.parts blank }
 {
     let mut steps = Steps::<C>::start(blank);
     let map: Sums<L, 1> = map_of(rt, alloc, &ENTRIES, &mut steps);

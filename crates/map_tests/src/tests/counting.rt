@@ -1,9 +1,9 @@
 //! A key that counts how often it is compared, on 100000 entries.
-ghost use Rattle.std.specs.Prelude.{◌≡◌, ◌<◌};
 ghost use Rattle.map_model.specs.Balance.{IsBlockSize};
+ghost use Rattle.aug_monoid.specs.Fresh.{IsFresh};
 
 use super::counted::Counted;
-use aug_map::{Map, MapOver};
+use aug_map::Map;
 use aug_monoid::{NoMemory, Steps, SumMax};
 use fork_join::{Cut, FreeGate};
 use leaf_blocks::PlainLeaf;
@@ -79,11 +79,11 @@ fn within_in<R: Threads + Abort + Sync, const B: usize, C: Ledger>(
     alloc: Global,
     steps: &mut Steps<C>,
 ) -> bool
-    requires size { IsBlockSize B }
+    requires { IsBlockSize B }
 {
     let compared = Arc::new(alloc, AtomicU64::new(0)).expect(rt, "memory");
     let entries = evens(rt, alloc, &compared);
-    let map: Result<Counts<B>, NoMemory> = MapOver::build(
+    let map: Result<Counts<B>, NoMemory> = Map::build(
         rt,
         alloc,
         &FreeGate,
@@ -102,9 +102,7 @@ fn within_counted<R: Threads + Abort + Sync, C: Ledger>(
     alloc: Global,
     blank: Blank,
 ) -> (bool, bool, bool)
-    requires name { blank.name ≡ C.name }
-    requires parts { blank.parts ≡ C.parts }
-    requires some { 0 < blank.parts }
+    requires { IsFresh C.name C.parts blank }
 {
     let mut steps = Steps::<C>::start(blank);
     let one = within_in::<R, 1, C>(rt, alloc, &mut steps);

@@ -1,8 +1,9 @@
 //! Cursors over maps of several sizes.
-ghost use Rattle.std.specs.Prelude.{◌≡◌, ◌<◌};
+
+ghost use Rattle.aug_monoid.specs.Fresh.{IsFresh};
 
 use super::sums::{Entries, Sums, map_of};
-use aug_map::{CodedMap, MapOver, map_crosses};
+use aug_map::{CodedMap, map_crosses};
 use aug_monoid::{Leaf, Steps, SumMax};
 use diff_leaf::DiffLeaf;
 use leaf_blocks::PlainLeaf;
@@ -42,9 +43,7 @@ fn assert_walked_counted<R: Abort, L: Leaf<u64, u64>, C: Ledger>(
     entries: &[(u64, u64)],
     blank: Blank,
 )
-    requires name { blank.name ≡ C.name }
-    requires parts { blank.parts ≡ C.parts }
-    requires some { 0 < blank.parts }
+    requires { IsFresh C.name C.parts blank }
 {
     let mut steps = Steps::<C>::start(blank);
     let map = map_of::<R, L, 32, C>(rt, alloc, entries, &mut steps);
@@ -66,6 +65,6 @@ fn a_cursor_gives_each_entry_once(rt: HostRuntime) {
 
 #[test]
 fn maps_cross_threads(rt: HostRuntime) {
-    let coded: CodedMap<SumMax<u64>> = MapOver::empty();
+    let coded: CodedMap<SumMax<u64>> = CodedMap::empty();
     map_crosses(&coded, &coded.cursor(rt.alloc()));
 }

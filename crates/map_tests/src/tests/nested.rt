@@ -1,8 +1,9 @@
 //! Maps with maps as augmented values.
-ghost use Rattle.std.specs.Prelude.{◌≡◌, ◌+◌, ◌<◌, [], IfOk};
+ghost use Rattle.std.specs.Prelude.{◌+◌, [], IfOk};
 ghost use Rattle.map_tests.specs.Firsts.{first_filled, first_monoid};
+ghost use Rattle.aug_monoid.specs.Fresh.{IsFresh};
 
-use aug_map::{MapOver, PlainMap};
+use aug_map::PlainMap;
 use aug_monoid::{Augment, NoMemory, Share, Steps, SumMax};
 use std::alloc::Global;
 use std::marker::{Brand, Model};
@@ -63,16 +64,16 @@ impl Augment for FirstPosting {
 
     fn base(alloc: Global, key: &u64, val: &u64) -> Result<Posting, NoMemory> {
         let weights = if *val == 0 {
-            MapOver::empty()
+            PlainMap::empty()
         } else {
-            MapOver::single(alloc, *key, *val)?
+            PlainMap::single(alloc, *key, *val)?
         };
         Ok(Posting { weights })
     }
 
     fn unit() -> Posting {
         Posting {
-            weights: MapOver::empty(),
+            weights: PlainMap::empty(),
         }
     }
 
@@ -97,12 +98,10 @@ fn first_weight_counted<R: Abort, C: Ledger>(
     alloc: Global,
     blank: Blank,
 ) -> Option<(u64, u64)>
-    requires name { blank.name ≡ C.name }
-    requires parts { blank.parts ≡ C.parts }
-    requires some { 0 < blank.parts }
+    requires { IsFresh C.name C.parts blank }
 {
     let mut steps = Steps::<C>::start(blank);
-    let mut map: PlainMap<FirstPosting> = MapOver::empty();
+    let mut map: PlainMap<FirstPosting> = PlainMap::empty();
     for (key, val) in [(1, 7), (2, 0), (3, 30), (4, 40)] {
         map = map.put(alloc, key, val, &mut steps).expect(rt, "memory");
     }

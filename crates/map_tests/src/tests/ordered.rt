@@ -5,19 +5,19 @@ use ord_map::OrdMap;
 use std::alloc::Global;
 use std::process::Abort;
 
-type Sums = OrdMap<SumMax<u64>>;
+pub(super) type Sums = OrdMap<SumMax<u64>>;
 
 const PAIRS: [(u64, u64); 5] = [(6, 60), (2, 1), (8, 80), (4, 40), (2, 20)];
 
 /// The map of the pairs.
-fn four<R: Abort>(rt: &R, alloc: Global) -> Sums {
+pub(super) fn four<R: Abort>(rt: &R, alloc: Global) -> Sums {
     OrdMap::from_pairs(alloc, &PAIRS).expect(rt, "memory")
 }
 
-const FOUR: &[(u64, u64)] = &[(2, 20), (4, 40), (6, 60), (8, 80)];
+pub(super) const FOUR: &[(u64, u64)] = &[(2, 20), (4, 40), (6, 60), (8, 80)];
 
 /// Asserts that a walk over a map gives these entries.
-fn assert_walk<R: Abort>(rt: &R, alloc: Global, map: &Sums, wanted: &[(u64, u64)]) {
+pub(super) fn assert_walk<R: Abort>(rt: &R, alloc: Global, map: &Sums, wanted: &[(u64, u64)]) {
     let mut list = Vec::new(alloc);
     for entry in map.iter(alloc) {
         let entry = entry.expect(rt, "memory");
@@ -27,7 +27,7 @@ fn assert_walk<R: Abort>(rt: &R, alloc: Global, map: &Sums, wanted: &[(u64, u64)
 }
 
 /// Asserts that a map, which is dropped, was made and has these entries.
-fn assert_made<R: Abort>(
+pub(super) fn assert_made<R: Abort>(
     rt: &R,
     alloc: Global,
     map: Result<Sums, NoMemory>,
@@ -76,9 +76,9 @@ fn what_an_empty_map_tells(rt: HostRuntime) {
     assert!(rt; none.is_empty());
 }
 
-type Found = Option<(u64, u64)>;
+pub(super) type Found = Option<(u64, u64)>;
 
-fn assert_found<R: Abort>(rt: &R, found: Result<Found, NoMemory>, wanted: Found) {
+pub(super) fn assert_found<R: Abort>(rt: &R, found: Result<Found, NoMemory>, wanted: Found) {
     assert_eq!(rt; found.expect(rt, "memory"), wanted);
 }
 
@@ -122,11 +122,11 @@ fn a_map_split_off_has_the_key(rt: HostRuntime) {
 }
 
 /// The map of 4,5 and 7,70.
-fn others<R: Abort>(rt: &R, alloc: Global) -> Sums {
+pub(super) fn others<R: Abort>(rt: &R, alloc: Global) -> Sums {
     OrdMap::from_pairs(alloc, &[(4, 5), (7, 70)]).expect(rt, "memory")
 }
 
-const UNION: &[(u64, u64)] = &[(2, 20), (4, 45), (6, 60), (7, 70), (8, 80)];
+pub(super) const UNION: &[(u64, u64)] = &[(2, 20), (4, 45), (6, 60), (7, 70), (8, 80)];
 
 const REST: &[(u64, u64)] = &[(2, 20), (6, 60), (8, 80)];
 

@@ -1,9 +1,8 @@
 //! Maps beside a plain sorted list, on random operations.
-ghost use Rattle.std.specs.Prelude.{◌≡◌, ◌<◌};
-ghost use Rattle.map_model.specs.Balance.{IsBlockSize};
+ghost use Rattle.aug_monoid.specs.Fresh.{IsFresh};
 
 use super::sums::{Entries, Sums, assert_has, assert_made};
-use aug_map::MapOver;
+use aug_map::Map;
 use aug_monoid::{Leaf, Steps};
 use diff_leaf::DiffLeaf;
 use leaf_blocks::PlainLeaf;
@@ -74,10 +73,8 @@ fn run_in<R: Abort, L: Leaf<u64, u64>, const B: usize, C: Ledger>(
     alloc: Global,
     seed: u64,
     steps: &mut Steps<C>,
-)
-    requires size { IsBlockSize B }
-{
-    let mut map: Sums<L, B> = MapOver::empty();
+) {
+    let mut map: Sums<L, B> = Map::empty();
     let mut list: Entries = Vec::new(alloc);
     let mut number = seed;
     for _turn in 0..300 {
@@ -98,9 +95,7 @@ fn run_counted<R: Abort, L: Leaf<u64, u64>, C: Ledger>(
     seed: u64,
     blank: Blank,
 )
-    requires name { blank.name ≡ C.name }
-    requires parts { blank.parts ≡ C.parts }
-    requires some { 0 < blank.parts }
+    requires { IsFresh C.name C.parts blank }
 {
     let mut steps = Steps::<C>::start(blank);
     run_in::<R, L, 1, C>(rt, alloc, seed, &mut steps);

@@ -1,9 +1,9 @@
 //! The worked examples of queries.
-ghost use Rattle.std.specs.Prelude.{◌≡◌, ◌-◌, ◌^◌, ◌<◌, ◌≤◌, max, nat_le};
+ghost use Rattle.std.specs.Prelude.{◌-◌, ◌^◌, ◌≤◌, max, nat_le};
 ghost use Rattle.std.proofs.Common.{ap, arith};
-ghost use Rattle.map_model.specs.Balance.{IsBlockSize};
 ghost use Rattle.map_model.proofs.Folds.{fold-append};
 ghost use Rattle.aug_monoid.specs.Totals.{totals_monoid, totals_base_fits};
+ghost use Rattle.aug_monoid.specs.Fresh.{IsFresh};
 
 use super::sums::{Sums, assert_made, map_of};
 use aug_monoid::{AugTest, Leaf, NoMemory, Project, Steps, SumMax, Totals};
@@ -16,8 +16,8 @@ use std::sync::ledger::{Blank, Ledger};
 
 /// Values of at least `bound`.
 #[derive(Drop)]
-struct AtLeast {
-    bound: u64,
+pub(super) struct AtLeast {
+    pub(super) bound: u64,
 }
 
 impl AugTest<SumMax<u64>> for AtLeast {
@@ -121,9 +121,7 @@ fn assert_asked_in<R: Abort, L: Leaf<u64, u64>, const B: usize, C: Ledger>(
     rt: &R,
     alloc: Global,
     steps: &mut Steps<C>,
-)
-    requires size { IsBlockSize B }
-{
+) {
     let map: Sums<L, B> = map_of(rt, alloc, ENTRIES, steps);
     assert_places(rt, alloc, &map, steps);
     assert_folds(rt, alloc, &map, steps);
@@ -132,9 +130,7 @@ fn assert_asked_in<R: Abort, L: Leaf<u64, u64>, const B: usize, C: Ledger>(
 
 /// The same for blocks of 1, 2 and 32 entries.
 fn assert_asked_counted<R: Abort, L: Leaf<u64, u64>, C: Ledger>(rt: &R, alloc: Global, blank: Blank)
-    requires name { blank.name ≡ C.name }
-    requires parts { blank.parts ≡ C.parts }
-    requires some { 0 < blank.parts }
+    requires { IsFresh C.name C.parts blank }
 {
     let mut steps = Steps::<C>::start(blank);
     assert_asked_in::<R, L, 1, C>(rt, alloc, &mut steps);

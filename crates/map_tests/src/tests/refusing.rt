@@ -1,9 +1,9 @@
 //! An augmented value whose combination may refuse.
-ghost use Rattle.std.specs.Prelude.{◌≡◌, ◌-◌, ◌+◌, ◌^◌, ◌<◌, ◌≤◌, min};
+ghost use Rattle.std.specs.Prelude.{◌-◌, ◌+◌, ◌^◌, ◌≤◌, min};
 ghost use Rattle.std.proofs.Common.{arith};
-ghost use Rattle.map_model.specs.Balance.{IsBlockSize};
+ghost use Rattle.aug_monoid.specs.Fresh.{IsFresh};
 
-use aug_map::{Map, MapOver};
+use aug_map::Map;
 use aug_monoid::{Augment, Leaf, NoMemory, Steps};
 use diff_leaf::DiffLeaf;
 use leaf_blocks::PlainLeaf;
@@ -14,7 +14,7 @@ use std::sync::ledger::{Blank, Ledger};
 
 /// The sum of the values, refused where it is 9.
 #[derive(Drop)]
-struct NotNine;
+pub(super) struct NotNine;
 
 impl Augment for NotNine {
     type Key = u64;
@@ -68,10 +68,8 @@ fn refused_in<R: Abort, L: Leaf<u64, u64>, const B: usize, C: Ledger>(
     rt: &R,
     alloc: Global,
     steps: &mut Steps<C>,
-) -> Refused
-    requires size { IsBlockSize B }
-{
-    let mut map: Sums<L, B> = MapOver::empty();
+) -> Refused {
+    let mut map: Sums<L, B> = Map::empty();
     for (key, val) in [(1, 3), (2, 4), (4, 1), (3, 5)] {
         map = map.put(alloc, key, val, steps).expect(rt, "memory");
     }
@@ -87,9 +85,7 @@ fn refused_counted<R: Abort, L: Leaf<u64, u64>, C: Ledger>(
     alloc: Global,
     blank: Blank,
 ) -> (Refused, Refused)
-    requires name { blank.name ≡ C.name }
-    requires parts { blank.parts ≡ C.parts }
-    requires some { 0 < blank.parts }
+    requires { IsFresh C.name C.parts blank }
 {
     let mut steps = Steps::<C>::start(blank);
     let one = refused_in::<R, L, 1, C>(rt, alloc, &mut steps);

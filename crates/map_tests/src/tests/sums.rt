@@ -1,7 +1,6 @@
 //! Maps of numbers, with the sum and the greatest of their values. Where memory is refused, a test ends here.
-ghost use Rattle.map_model.specs.Balance.{IsBlockSize};
 
-use aug_map::{Map, MapOver};
+use aug_map::Map;
 use aug_monoid::{Leaf, NoMemory, Steps, SumMax};
 use std::alloc::Global;
 use std::process::Abort;
@@ -17,10 +16,8 @@ pub(super) fn map_of<R: Abort, L: Leaf<u64, u64>, const B: usize, C: Ledger>(
     alloc: Global,
     entries: &[(u64, u64)],
     steps: &mut Steps<C>,
-) -> Sums<L, B>
-    requires { IsBlockSize B }
-{
-    let mut map: Sums<L, B> = MapOver::empty();
+) -> Sums<L, B> {
+    let mut map: Sums<L, B> = Map::empty();
     for entry in entries {
         map = map.put(alloc, entry.0, entry.1, steps).expect(rt, "memory");
     }

@@ -3,7 +3,7 @@ ghost use Rattle.std.specs.Prelude.{◌+◌, ◌-◌, ◌^◌, ◌≤◌, min, n
 ghost use Rattle.std.proofs.Common.{arith};
 
 use super::sums::{Sums, assert_has, assert_made};
-use aug_map::MapOver;
+use aug_map::Map;
 use aug_monoid::{Leaf, NoMemory, Reduce, SatSum, Test};
 use diff_leaf::DiffLeaf;
 use fork_join::{Cut, FreeGate};
@@ -29,7 +29,7 @@ impl Test<u64, u64> for AtLeast {
 
 /// How many entries there are.
 #[derive(Drop)]
-struct Count;
+pub(super) struct Count;
 
 impl Reduce<u64, u64> for Count {
     type Out = u64;
@@ -79,7 +79,7 @@ fn built<R: Threads + Abort + Sync, L: Leaf<u64, u64> + Send + Sync>(
     alloc: Global,
     pairs: &[(u64, u64)],
 ) -> Tool<L> {
-    let map = MapOver::build(rt, alloc, &FreeGate, Cut::new(2, 1), pairs);
+    let map = Map::build(rt, alloc, &FreeGate, Cut::new(2, 1), pairs);
     map.expect(rt, "memory")
 }
 
@@ -156,7 +156,7 @@ fn assert_batches_alone<R: Abort, L: Leaf<u64, u64>>(rt: &R, alloc: Global, a: &
 
 /// Asserts that the calls on one thread give what they should.
 fn assert_alone<R: Abort, L: Leaf<u64, u64>>(rt: &R, alloc: Global) {
-    let a: Result<Tool<L>, NoMemory> = MapOver::build_alone(alloc, PAIRS);
+    let a: Result<Tool<L>, NoMemory> = Map::build_alone(alloc, PAIRS);
     let a = a.expect(rt, "memory");
     assert_batches_alone(rt, alloc, &a);
     let twice = a.intersect_alone(alloc, &a, &SatSum);
@@ -171,7 +171,7 @@ const APPENDED: &[(u64, u64)] = &[(5, 1), (3, 31), (1, 10), (5, 51)];
 
 /// Asserts that a map's entries are appended behind what a vector has.
 fn assert_appended<R: Abort, L: Leaf<u64, u64>>(rt: &R, alloc: Global) {
-    let map: Result<Tool<L>, NoMemory> = MapOver::build_alone(alloc, PAIRS);
+    let map: Result<Tool<L>, NoMemory> = Map::build_alone(alloc, PAIRS);
     let mut list = Vec::from_slice(alloc, OTHERS).expect(rt, "memory");
     map.expect(rt, "memory")
         .append_to(alloc, &mut list)
