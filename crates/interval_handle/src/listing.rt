@@ -9,7 +9,7 @@ use crate::handle::{Handle, keep, take};
 use crate::status::{BAD_CALL, NO_MEMORY};
 use std::alloc::Global;
 
-/// Lists the intervals that have a point, in order, in O(log n + k) for k of n intervals. `count` becomes their number, also where
+/// Lists the intervals that have a point, in order, in O(log n + k log n) for k of n intervals. `count` becomes their number, also where
 /// the arrays have no room for them. It is a bad call where the arrays differ in length.
 pub fn stab(
     alloc: Global,

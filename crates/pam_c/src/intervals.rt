@@ -87,7 +87,7 @@ pub extern "C" fn pam_x_intervals_any(alloc: Global, set: &mut Handle, point: u6
     interval_handle::any(alloc, set, point)
 }
 
-/// Lists the intervals that have a point, in order, in O(log n + k) for k of n intervals. `count` becomes their number, also where
+/// Lists the intervals that have a point, in order, in O(log n + k log n) for k of n intervals. `count` becomes their number, also where
 /// the arrays have no room for them. It is a bad call where the arrays differ in length.
 #[unsafe(no_mangle)]
 pub extern "C" fn pam_x_intervals_stab(
