@@ -26,7 +26,7 @@ fn counted_order<K: Key, C: Ledger>(a: &K, b: &K, blank: Blank) -> Ordering
     a.order(b, &mut steps)
 }
 
-fn order_of<K: Key>(a: &K, b: &K) -> Ordering {
+pub(crate) fn order_of<K: Key>(a: &K, b: &K) -> Ordering {
     counted_order::<K, Brand>(a, b, Blank::new(1))
 }
 
@@ -47,7 +47,11 @@ fn counted_fold<R: Abort, A: Augment, C: Ledger>(
     fold
 }
 
-fn fold_of<R: Abort, A: Augment>(rt: &R, alloc: Global, entries: &[(A::Key, A::Val)]) -> A::Aug {
+pub(crate) fn fold_of<R: Abort, A: Augment>(
+    rt: &R,
+    alloc: Global,
+    entries: &[(A::Key, A::Val)],
+) -> A::Aug {
     counted_fold::<R, A, Brand>(rt, alloc, entries, Blank::new(1))
 }
 

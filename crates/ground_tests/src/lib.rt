@@ -1,4 +1,4 @@
-//! Tests of the crates below the trees: the plain program, the instances, slices, sorts, sets, forks, turns and blocks.
+//! Tests of the crates below the trees: the plain program, the instances, keys, folds, slices, sorts, sets, forks, turns and blocks.
 //!
 //! Tests: here. Wrong bodies: none; a test promises nothing.
 #![tactic(auto)]
@@ -12,9 +12,13 @@ mod gap_blocks;
 #[cfg(test)]
 mod instances;
 #[cfg(test)]
+mod keys;
+#[cfg(test)]
 mod plain_blocks;
 #[cfg(test)]
 mod plain_program;
+#[cfg(test)]
+mod ready_folds;
 #[cfg(test)]
 mod row_blocks;
 #[cfg(test)]
