@@ -1,0 +1,4 @@
+mod Merging
+mod Nodes
+mod Parted
+mod Scattered
