@@ -1,9 +1,10 @@
 //! Cursors over maps.
-ghost use Rattle.std.specs.Prelude.{◌≡◌, ◌+◌, ◌<◌, ◌≤◌, Some, length, drop, slice_get, IfOk, IsOk};
+ghost use Rattle.std.specs.Prelude.{◌≡◌, ◌+◌, ◌<◌, ◌≤◌, Some, length, drop, slice_get, slice_range, IfOk, IsOk};
 ghost use Rattle.std.specs.Iterator.{item_count};
 ghost use Rattle.aug_map.specs.Shares.{YieldsShares, Takes};
 ghost use Rattle.aug_map.specs.Places.{IsBehind, IsPlace};
 
+use crate::back::BackPlace;
 use crate::map::Map;
 use crate::seat::{Seat, find_seat};
 use aug_monoid::{Key, Leaf, NoMemory, Share, Walk, share_entry};
@@ -20,43 +21,56 @@ pub(crate) struct Place<'a, K, V, L> {
     next: Option<(&'a K, &'a V)>,
 }
 
-/// The entries of a map in the order of their keys, which contracts see as the list of those that are left.
+/// Entries of a map in the order of their keys, from both ends: contracts see the list of those that are left between them.
 #[derive(Drop)]
 pub struct Cursor<'a, M: Shape> {
-    alloc: Global,
-    tree: &'a Tree<M>,
-    at: u64,
-    end: u64,
+    pub(crate) alloc: Global,
+    pub(crate) tree: &'a Tree<M>,
+    pub(crate) at: u64,
+    pub(crate) end: u64,
     place: Option<Place<'a, M::Key, M::Val, M::Leaf>>,
+    pub(crate) back: Option<BackPlace<'a, M::Leaf>>,
 }
 
 impl<'a, M: Shape> Model for Cursor<'a, M> {
-    ghost use Rattle.std.specs.Prelude.{List, ◌≡◌, ◌≤◌, length, drop};
+    ghost use Rattle.std.specs.Prelude.{List, ◌≤◌, length, drop, take, slice_range};
 
     ghost Value = { List (M.Key × M.Val) };
 
-    ghost use Rattle.aug_map.specs.Places.{IsPlace};
+    ghost use Rattle.aug_map.specs.Places.{IsBackPlace, IsPlace};
 
-    ghost view = { λ c. drop c.at c.tree.now.entries };
+    ghost view = { λ c. slice_range c.tree.now.entries c.at c.end };
 
     ghost invariant = { λ c. (c.at ≤ c.end)
-        × (c.end ≡ length c.tree.now.entries)
-        × IsPlace M.Leaf.entries M.Leaf.fits_walk (drop c.at c.tree.now.entries) c.place };
+        × (c.end ≤ length c.tree.now.entries)
+        × IsPlace M.Leaf.entries M.Leaf.fits_walk (drop c.at c.tree.now.entries) c.place
+        × IsBackPlace M.Leaf.entries (take c.end c.tree.now.entries) c.back };
 }
 
 impl<M: Shape> Map<M> {
     /// Goes over the entries in the order of their keys: one item an entry, a share of it or a refusal of that share. It keeps the
     /// allocator for the shares, and takes no memory itself. An entry takes O(1), and the first one of a block O(log n) in a map
-    /// of n entries.
+    /// of n entries. From the back, by `next_back` or `rev`, the last one of a block takes O(log n), and so does an entry between
+    /// two blocks; others take O(1) where a block is a plain vector, and time linear in the block's size where it is coded.
     pub fn cursor(&self, alloc: Global) -> Cursor<'_, M>
         ensures { result ≡ self.now.entries }
     {
+        self.cursor_between(alloc, 0, self.tree.size())
+    }
+
+    /// Goes over the entries at the places from `from` up to but without `to`, counted from 0, as `cursor` does; over none where
+    /// `from` is not below `to`. Places past the last entry have none.
+    pub fn cursor_between(&self, alloc: Global, from: u64, to: u64) -> Cursor<'_, M>
+        ensures { result ≡ slice_range self.now.entries from to }
+    {
+        let end = self.tree.size().min(to);
         Cursor {
             alloc,
             tree: &self.tree,
-            at: 0,
-            end: self.tree.size(),
+            at: from.min(end),
+            end,
             place: None,
+            back: None,
         }
     }
 }

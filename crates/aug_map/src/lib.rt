@@ -18,6 +18,7 @@
 
 mod aliases;
 mod alone;
+mod back;
 mod bulk;
 mod changes;
 mod cross;
@@ -27,6 +28,7 @@ mod finding;
 mod given_up;
 mod joins;
 mod listing;
+mod many;
 mod map;
 mod queries;
 mod seat;

@@ -1,10 +1,11 @@
 //! Questions to maps: folds of ranges, places of keys, neighbours, and parts.
-ghost use Rattle.std.specs.Prelude.{◌≡◌, ◌+◌, ◌*◌, ◌≤◌, IfOk, IsOk};
+ghost use Rattle.std.specs.Prelude.{◌≡◌, ◌+◌, ◌*◌, ◌≤◌, IfOk, IsOk, length};
 ghost use Rattle.map_model.specs.Entries.{above, below};
 ghost use Rattle.map_model.specs.Fold.{aug_filter, fold_of, project, range_fold};
 ghost use Rattle.map_model.specs.Parts.{left_of, next, prev, rank, right_of, select, slice};
 
 use crate::map::Map;
+use crate::seat::is_key_at;
 use aug_monoid::{AugTest, Augment, NoMemory, Project, Steps};
 use std::alloc::Global;
 use std::sync::ledger::Ledger;
@@ -103,6 +104,22 @@ impl<M: Shape> Map<M> {
         ensures cost { steps.new ≤ steps.old + (self.now.height + M.Leaf.FIND) }
     {
         tree_query::rank(&self.tree, key, steps)
+    }
+
+    /// How many keys are at most `key`, in at most `height + M::Leaf::FIND + 1` steps. It takes no memory.
+    pub fn count_to<C: Ledger>(&self, key: &M::Key, steps: &mut Steps<C>) -> u64
+        ensures value { result ≡ length (left_of M.Key.cmp self.now.entries key.now) }
+        ensures cost { steps.new ≤ steps.old + (self.now.height + M.Leaf.FIND + 1) }
+    {
+        let before = self.rank(key, steps);
+        if before >= self.size() {
+            return before;
+        }
+        if is_key_at(&self.tree, before, key, steps) {
+            before + 1
+        } else {
+            before
+        }
     }
 
     /// The entry at a place, counted from 0, in time linear in the height; none exactly where there are at most `at` entries. It

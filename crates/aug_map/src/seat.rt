@@ -1,7 +1,10 @@
 //! Where an entry stands in a tree.
-ghost use Rattle.std.specs.Prelude.{◌≡◌, ◌<◌, ◌++◌, List, length, drop};
-ghost use Rattle.aug_map.specs.Seats.{IsSeat, led_by};
+ghost use Rattle.std.specs.Prelude.{◌≡◌, ◌+◌, ◌<◌, ◌++◌, List, length, drop, take, slice_get, IfSome};
+ghost use Rattle.std.specs.Ordering.{is_eq};
+ghost use Rattle.aug_map.specs.Seats.{IsSeat, IsSeatBehind, led_by};
 
+use aug_monoid::{Key, Leaf, Steps};
+use std::sync::ledger::Ledger;
 use tree_shape::{Look, Shape, Tree};
 
 /// Where an entry stands: in a node, or in a leaf behind others. A leaf comes with the entry that follows its last, if there is
@@ -26,7 +29,8 @@ pub(crate) fn find_seat<'a, M: Shape>(
     after: Option<(&'a M::Key, &'a M::Val)>,
 ) -> Seat<'a, M::Key, M::Val, M::Leaf>
     requires { at < length tree.now.entries }
-    ensures { (more : List (M.Key × M.Val)) → IsSeat M.Leaf.entries (drop at tree.now.entries ++ led_by after.entry more) result }
+    ensures ahead { (more : List (M.Key × M.Val)) → IsSeat M.Leaf.entries (drop at tree.now.entries ++ led_by after.entry more) result }
+    ensures behind { IsSeatBehind M.Leaf.entries (take at tree.now.entries) result }
 {
     match tree.look() {
         Look::Empty => unreachable!(),
@@ -50,5 +54,25 @@ pub(crate) fn find_seat<'a, M: Shape>(
                 find_seat(right, at - before - 1, after)
             }
         }
+    }
+}
+
+/// Whether the entry behind the first `at` entries has a key, in one step.
+pub(crate) fn is_key_at<M: Shape, C: Ledger>(
+    tree: &Tree<M>,
+    at: u64,
+    key: &M::Key,
+    steps: &mut Steps<C>,
+) -> bool
+    requires { at < length tree.now.entries }
+    ensures value { IfSome (slice_get tree.now.entries at) (λ e. result ≡ is_eq (M.Key.cmp e.0 key.now)) }
+    ensures cost { steps.new ≡ steps.old + 1 }
+{
+    match find_seat(tree, at, None) {
+        Seat::Entry { key: there, .. } => there.order(key, steps).is_eq(),
+        Seat::Inside { leaf, at, .. } => match leaf.get_at(at) {
+            Some(entry) => entry.key().order(key, steps).is_eq(),
+            None => unreachable!(),
+        },
     }
 }

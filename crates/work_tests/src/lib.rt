@@ -18,6 +18,8 @@ mod given_up;
 #[cfg(test)]
 mod in_place;
 #[cfg(test)]
+mod many;
+#[cfg(test)]
 mod slices;
 #[cfg(test)]
 mod sums;
