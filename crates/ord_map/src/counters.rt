@@ -1,5 +1,5 @@
 //! Calls that count their steps, each with a counter of its own.
-ghost use Rattle.std.specs.Prelude.{◌≡◌, [], ◌∷◌, IfOk, IsOk, OnErr};
+ghost use Rattle.std.specs.Prelude.{◌≡◌, [], ◌∷◌, IfOk, IsOk, OnErr, length};
 ghost use Rattle.map_model.specs.Entries.{drop_key, lookup, set};
 ghost use Rattle.map_model.specs.Fold.{fold_of, range_fold};
 ghost use Rattle.map_model.specs.Parts.{left_of, next, prev, rank, right_of};
@@ -127,6 +127,15 @@ pub(crate) fn rank<A: Augment, C: Ledger>(map: &PlainMap<A>, key: &A::Key, blank
 {
     let mut steps = Steps::<C>::start(blank);
     map.rank(key, &mut steps)
+}
+
+/// How many keys are at most a key.
+pub(crate) fn count_to<A: Augment, C: Ledger>(map: &PlainMap<A>, key: &A::Key, blank: Blank) -> u64
+    requires { IsFresh C.name C.parts blank }
+    ensures { result ≡ length (left_of A.Key.cmp map.now.entries key.now) }
+{
+    let mut steps = Steps::<C>::start(blank);
+    map.count_to(key, &mut steps)
 }
 
 /// The entry with the least greater key.

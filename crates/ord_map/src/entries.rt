@@ -1,8 +1,8 @@
 //! What stands at a key, at a place, and beside a key.
-ghost use Rattle.std.specs.Prelude.{◌≡◌, IfOk, IsOk, is_some};
+ghost use Rattle.std.specs.Prelude.{◌≡◌, IfOk, IsOk, is_some, length};
 ghost use Rattle.std.specs.Option.{unwrap_or};
 ghost use Rattle.map_model.specs.Entries.{lookup};
-ghost use Rattle.map_model.specs.Parts.{next, prev, rank, select};
+ghost use Rattle.map_model.specs.Parts.{left_of, next, prev, rank, select};
 ghost use Rattle.ord_map.specs.Ends.{last};
 
 use crate::counters;
@@ -69,6 +69,13 @@ impl<A: Augment> OrdMap<A> {
         ensures { result ≡ rank A.Key.cmp self.now key.now }
     {
         counters::rank::<A, Brand>(&self.map, key, Blank::new(1))
+    }
+
+    /// How many keys are at most `key`, in O(log n). It takes no memory.
+    pub fn count_to(&self, key: &A::Key) -> u64
+        ensures { result ≡ length (left_of A.Key.cmp self.now key.now) }
+    {
+        counters::count_to::<A, Brand>(&self.map, key, Blank::new(1))
     }
 
     /// The entry with the least key greater than `key`, in O(log n); none exactly where no key is greater.

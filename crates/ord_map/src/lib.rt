@@ -19,10 +19,13 @@ mod counters;
 mod ends;
 mod entries;
 mod lists;
+mod many;
 mod map;
 mod nearest;
 mod parts;
 mod passes;
+mod ranges;
+mod same;
 mod updates;
 mod wholes;
 

@@ -9,7 +9,7 @@ use aug_monoid::{Augment, NoMemory, Share};
 use std::alloc::Global;
 use std::marker::Model;
 
-/// The entries of a map in the order of their keys: one item an entry, a share of it or a refusal of that share.
+/// Entries of a map in the order of their keys, from both ends: one item an entry, a share of it or a refusal of that share.
 pub type Iter<'a, A> = Cursor<'a, Plain<A>>;
 
 /// A persistent ordered map with the fold of its entries.
@@ -66,7 +66,10 @@ impl<A: Augment> OrdMap<A> {
         self.map.aug()
     }
 
-    /// Goes over the entries in the order of their keys. An entry takes O(1), and the first one of a block O(log n).
+    /// Goes over the entries in the order of their keys. An entry takes O(1), and the first one of a block O(log n). With `rev` it
+    /// goes from the last entry to the first; then the last one of a block takes O(log n), and so does an entry between two blocks.
+    ///
+    ///     for entry in map.iter(alloc).rev() { .. }     // keys fall
     pub fn iter(&self, alloc: Global) -> Iter<'_, A>
         ensures { result ≡ self.now }
     {

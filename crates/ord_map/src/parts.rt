@@ -36,6 +36,14 @@ impl<A: Augment> OrdMap<A> {
         Ok(OrdMap { map })
     }
 
+    /// The map of the entries with keys at least `key`, in O(log n).
+    pub fn at_least(&self, alloc: Global, key: &A::Key) -> Result<OrdMap<A>, NoMemory>
+        ensures { IfOk result (λ part. part ≡ right_of A.Key.cmp self.now key.now) }
+    {
+        let map = self.map.at_least(alloc, key)?;
+        Ok(OrdMap { map })
+    }
+
     /// Takes the entries with keys at least `key` out of the map, and answers them as a map of their own, in O(log n). After a
     /// refusal the map is as it was.
     pub fn split_off(&mut self, alloc: Global, key: &A::Key) -> Result<OrdMap<A>, NoMemory>
@@ -43,9 +51,9 @@ impl<A: Augment> OrdMap<A> {
         ensures low { IfOk result (λ _. self.new ≡ below A.Key.cmp self.old key.now) }
         ensures kept { OnErr result (self.new ≡ self.old) }
     {
-        let map = self.map.at_least(alloc, key)?;
+        let high = self.at_least(alloc, key)?;
         self.map = self.map.below(alloc, key)?;
-        Ok(OrdMap { map })
+        Ok(high)
     }
 
     /// The fold of the entries with keys from `lo` to `hi`, both included, in O(log n), and the `Augment`'s unit where there
