@@ -1,8 +1,9 @@
 -- Intervals by where they begin and end.
 use Rattle.std.proofs.Common.{◌≡◌, ℕ, ◌-◌, ◌^◌, ◌<◌, ◌&&◌, ◌||◌, ◌↔◌, IsTrue, Bool, true, false, cond, List, [], ◌∷◌, None, Some, nat_le, refl, ap, ◌∙◌, arith}
 use Rattle.std.proofs.lemmas.Bool.Decides.{nat_tests}
-use Rattle.std.specs.List.{AllByRecursion}
+use Rattle.std.specs.List.{AllByRecursion, slice_get}
 use Rattle.std.specs.Map.{keys_of}
+use Rattle.std.specs.Option.{option_map}
 use Rattle.std.specs.Ordering.{is_ge, is_le}
 use Rattle.aug_monoid.specs.Exact.{pair64_cmp}
 use Rattle.aug_monoid.specs.Greatest.{greater_of}
@@ -10,7 +11,7 @@ use Rattle.aug_monoid.specs.declared.pair64.Pair64.{Pair64}
 use Rattle.map_model.specs.Fold.{aug_filter, fold_of}
 use Rattle.map_model.specs.Parts.{left_of, slice}
 use Rattle.interval_map.specs.Ends.{reaches, reaches_either}
-use Rattle.interval_map.specs.Intervals.{IsInterval, interval, overlap, stab}
+use Rattle.interval_map.specs.Intervals.{IsInterval, interval, overlap}
 
 -- an interval is at most the one that begins at p and ends last where it begins at most at p
 begins_by : (p : ℕ) (i : Pair64) → i.second < 2 ^ 64 → is_le (pair64_cmp i (interval p (2 ^ 64 - 1))) ≡ nat_le i.first p
@@ -48,24 +49,29 @@ module _ {V : Type 0} where
         | false ↦ rest
       ])
 
-  -- whether the greatest right end of the intervals that begin at most at p is at least p
-  abbrev pub covers : List (Pair64 × V) → ℕ → Bool
-  covers m p = reaches p (fold_of (λ key _. Some key.second) None greater_of (left_of pair64_cmp m (interval p (2 ^ 64 - 1))))
+  -- whether the greatest right end of the intervals that begin at most at hi is at least lo
+  abbrev pub covers : List (Pair64 × V) → ℕ → ℕ → Bool
+  covers m lo hi = reaches lo (fold_of (λ key _. Some key.second) None greater_of (left_of pair64_cmp m (interval hi (2 ^ 64 - 1))))
 
-  covers_is : (m : List (Pair64 × V)) (p : ℕ) → AllByRecursion IsInterval (keys_of m) → covers m p ≡ some_of (stab (keys_of m) p)
-  covers_is [] p a = refl
-  covers_is (e ∷ m) p a =
-      let rest = covers_is m p a.1 in
-      let fold = fold_of (λ (key : Pair64) (_ : V). Some key.second) None greater_of (left_of pair64_cmp m (interval p (2 ^ 64 - 1))) in
-      rw (begins_by p e.0 a.0.1) (elim (nat_le e.0.first p) as (λ b.
-      reaches p (fold_of (λ key _. Some key.second) None greater_of (cond b (e ∷ left_of pair64_cmp m (interval p (2 ^ 64 - 1))) (left_of pair64_cmp m (interval p (2 ^ 64 - 1)))))
-      ≡ some_of (cond (b && nat_le p e.0.second) (e.0 ∷ stab (keys_of m) p) (stab (keys_of m) p))) [
-        | true ↦ reaches_either p (Some e.0.second) fold tt tt ∙ elim (nat_le p e.0.second) as (λ b. (b || reaches p fold) ≡ some_of (cond b (e.0 ∷ stab (keys_of m) p) (stab (keys_of m) p))) [
+  covers_is : (m : List (Pair64 × V)) (lo hi : ℕ) → AllByRecursion IsInterval (keys_of m) → covers m lo hi ≡ some_of (overlap (keys_of m) lo hi)
+  covers_is [] lo hi a = refl
+  covers_is (e ∷ m) lo hi a =
+      let rest = covers_is m lo hi a.1 in
+      let fold = fold_of (λ (key : Pair64) (_ : V). Some key.second) None greater_of (left_of pair64_cmp m (interval hi (2 ^ 64 - 1))) in
+      rw (begins_by hi e.0 a.0.1) (elim (nat_le e.0.first hi) as (λ b.
+      reaches lo (fold_of (λ key _. Some key.second) None greater_of (cond b (e ∷ left_of pair64_cmp m (interval hi (2 ^ 64 - 1))) (left_of pair64_cmp m (interval hi (2 ^ 64 - 1)))))
+      ≡ some_of (cond (b && nat_le lo e.0.second) (e.0 ∷ overlap (keys_of m) lo hi) (overlap (keys_of m) lo hi))) [
+        | true ↦ reaches_either lo (Some e.0.second) fold tt tt ∙ elim (nat_le lo e.0.second) as (λ b. (b || reaches lo fold) ≡ some_of (cond b (e.0 ∷ overlap (keys_of m) lo hi) (overlap (keys_of m) lo hi))) [
           | true ↦ refl
           | false ↦ rest
         ]
         | false ↦ rest
       ])
 
-  pub covers_hits : (m : List (Pair64 × V)) (p : ℕ) (answer : Bool) → AllByRecursion IsInterval (keys_of m) → answer ≡ covers m p → IsTrue answer ↔ ¬ (stab (keys_of m) p ≡ [])
-  covers_hits m p answer a is = rw (is, covers_is m p a) (some_of_is (stab (keys_of m) p))
+  pub covers_hits : (m : List (Pair64 × V)) (lo hi : ℕ) (answer : Bool) → AllByRecursion IsInterval (keys_of m) → answer ≡ covers m lo hi → IsTrue answer ↔ ¬ (overlap (keys_of m) lo hi ≡ [])
+  covers_hits m lo hi answer a is = rw (is, covers_is m lo hi a) (some_of_is (overlap (keys_of m) lo hi))
+
+  -- the key of the first entry is the first of the keys
+  pub first_key : (m : List (Pair64 × V)) → option_map (λ e. e.0) (slice_get m 0) ≡ slice_get (keys_of m) 0
+  first_key [] = refl
+  first_key (e ∷ m) = refl

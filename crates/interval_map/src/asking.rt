@@ -1,63 +1,22 @@
 //! Which intervals have a number, or a number of a range, and which are there.
-ghost use Rattle.std.specs.Prelude.{◌≡◌, ◌↔◌, [], Contains, IfOk, IsTrue, Some, None, is_some, take};
+ghost use Rattle.std.specs.Prelude.{◌≡◌, ◌↔◌, [], Contains, IfOk, IsTrue, slice_get, take};
 ghost use Rattle.std.specs.Map.{keys_of};
 ghost use Rattle.aug_monoid.specs.Exact.{pair64_cmp};
-ghost use Rattle.aug_monoid.specs.Greatest.{greater_of};
-ghost use Rattle.map_model.specs.Entries.{lookup};
-ghost use Rattle.map_model.specs.Fold.{fold_of};
-ghost use Rattle.map_model.specs.Parts.{left_of};
+ghost use Rattle.map_model.specs.Parts.{slice};
 ghost use Rattle.interval_map.specs.Intervals.{interval, intervals_from, overlap, stab};
-ghost use Rattle.aug_monoid.specs.Fresh.{IsFresh};
 
 use crate::ends::EndsFrom;
-use crate::intervals::{IntervalMap, Intervals, interval};
-use aug_monoid::{AugTest, NoMemory, Pair64, Steps};
+use crate::intervals::{Intervals, interval};
+use aug_monoid::{AugTest, MaxRight, NoMemory, Pair64};
+use ord_map::OrdMap;
 use std::alloc::Global;
-use std::marker::Brand;
-use std::sync::ledger::{Blank, Ledger};
-
-// The greatest right end of the intervals that begin at most at `p`, with a counter of its own.
-fn greatest_right<C: Ledger>(alloc: Global, map: &IntervalMap, p: u64, blank: Blank) -> Option<u64>
-    requires { IsFresh C.name C.parts blank }
-    ensures { result ≡ fold_of (λ key _. Some key.second) None greater_of (left_of pair64_cmp map.now.entries (interval p u64.MAX)) }
-{
-    let mut steps = Steps::<C>::start(blank);
-    match map.aug_left(alloc, &interval(p, u64::MAX), &mut steps) {
-        Ok(right) => right,
-        Err(NoMemory) => unreachable!(),
-    }
-}
-
-// Whether a map has a key, with a counter of its own.
-fn has_key<C: Ledger>(alloc: Global, map: &IntervalMap, key: &Pair64, blank: Blank) -> bool
-    requires { IsFresh C.name C.parts blank }
-    ensures { result ≡ is_some (lookup pair64_cmp map.now.entries key.now) }
-{
-    let mut steps = Steps::<C>::start(blank);
-    match map.get(alloc, key, &mut steps) {
-        Ok(val) => val.is_some(),
-        Err(NoMemory) => unreachable!(),
-    }
-}
-
-// The keys of a map in order.
-fn keys(alloc: Global, map: &IntervalMap) -> Result<Vec<Pair64>, NoMemory>
-    ensures { IfOk result (λ keys. keys.items ≡ keys_of map.now.entries) }
-{
-    let mut keys = Vec::new(alloc);
-    for entry in map.cursor(alloc) {
-        let (key, ()) = entry?;
-        keys.push(key)?;
-    }
-    Ok(keys)
-}
 
 // The first `count` keys of a map in order.
-fn first_keys(alloc: Global, map: &IntervalMap, count: usize) -> Result<Vec<Pair64>, NoMemory>
-    ensures { IfOk result (λ keys. keys.items ≡ take count (keys_of map.now.entries)) }
+fn first_keys(alloc: Global, map: &OrdMap<MaxRight>, count: usize) -> Result<Vec<Pair64>, NoMemory>
+    ensures { IfOk result (λ keys. keys.items ≡ take count (keys_of map.now)) }
 {
     let mut keys = Vec::new(alloc);
-    for entry in map.cursor(alloc) {
+    for entry in map.iter(alloc) {
         if keys.len() >= count {
             return Ok(keys);
         }
@@ -67,13 +26,23 @@ fn first_keys(alloc: Global, map: &IntervalMap, count: usize) -> Result<Vec<Pair
     Ok(keys)
 }
 
+// The entries of the intervals that begin at most at `hi`.
+fn begun(alloc: Global, map: &OrdMap<MaxRight>, hi: u64) -> Result<OrdMap<MaxRight>, NoMemory>
+    ensures { IfOk result (λ begun. begun ≡ slice pair64_cmp map.now (interval 0 0) (interval hi u64.MAX)) }
+{
+    map.range(alloc, &interval(0, 0), &interval(hi, u64::MAX))
+}
+
 impl Intervals {
     /// Whether the interval from `left` to `right` is there, in time that grows with the logarithm of the number of intervals. It
     /// takes no memory, and refuses nothing.
     pub fn contains(&self, alloc: Global, left: u64, right: u64) -> bool
         ensures { IsTrue result ↔ Contains self.now (interval left right) }
     {
-        has_key::<Brand>(alloc, &self.map, &interval(left, right), Blank::new(1))
+        match self.map.contains_key(alloc, &interval(left, right)) {
+            Ok(found) => found,
+            Err(NoMemory) => unreachable!(),
+        }
     }
 
     /// The first `count` intervals from the one from `left` to `right` on, which need not be there: those that begin after `left`,
@@ -96,8 +65,35 @@ impl Intervals {
     pub fn any(&self, alloc: Global, p: u64) -> bool
         ensures { IsTrue result ↔ ¬ (stab self.now p ≡ []) }
     {
-        let right = greatest_right::<Brand>(alloc, &self.map, p, Blank::new(1));
-        EndsFrom { least: p }.passes(&right)
+        self.any_overlapping(alloc, p, p)
+    }
+
+    /// Whether an interval begins at most at `hi` and ends at least at `lo`, in the time of `any`. It takes no memory, and refuses
+    /// nothing.
+    pub fn any_overlapping(&self, alloc: Global, lo: u64, hi: u64) -> bool
+        ensures { IsTrue result ↔ ¬ (overlap self.now lo hi ≡ []) }
+    {
+        match self.map.fold_to(alloc, &interval(hi, u64::MAX)) {
+            Ok(right) => EndsFrom { least: lo }.passes(&right),
+            Err(NoMemory) => unreachable!(),
+        }
+    }
+
+    /// The first of the intervals that `overlap` answers, in time that grows with the logarithm of the number of intervals; none
+    /// exactly where there are none.
+    pub fn first_overlapping(
+        &self,
+        alloc: Global,
+        lo: u64,
+        hi: u64,
+    ) -> Result<Option<Pair64>, NoMemory>
+        ensures { IfOk result (λ first. first ≡ slice_get (overlap self.now lo hi) 0) }
+    {
+        let begun = begun(alloc, &self.map, hi)?;
+        match begun.first_where(alloc, &EndsFrom { least: lo })? {
+            Some((first, ())) => Ok(Some(first)),
+            None => Ok(None),
+        }
     }
 
     /// The intervals that have `p`, in order. Its time goes with their number, and with the logarithm of the number of intervals.
@@ -112,10 +108,8 @@ impl Intervals {
     pub fn overlap(&self, alloc: Global, lo: u64, hi: u64) -> Result<Vec<Pair64>, NoMemory>
         ensures { IfOk result (λ hits. hits.items ≡ overlap self.now lo hi) }
     {
-        let begun = self
-            .map
-            .slice(alloc, &interval(0, 0), &interval(hi, u64::MAX))?;
-        let hits = begun.aug_filter(alloc, &EndsFrom { least: lo })?;
-        keys(alloc, &hits)
+        let begun = begun(alloc, &self.map, hi)?;
+        let hits = begun.filter_fold(alloc, &EndsFrom { least: lo })?;
+        hits.keys(alloc)
     }
 }

@@ -5,16 +5,14 @@ ghost use Rattle.interval_map.specs.Intervals.{IsIntervals, interval};
 
 use aug_map::PlainMap;
 use aug_monoid::{MaxRight, NoMemory, Pair64, Share};
+use ord_map::OrdMap;
 use std::alloc::Global;
 use std::marker::Model;
-
-/// The map whose keys are intervals, with their greatest right end.
-pub(crate) type IntervalMap = PlainMap<MaxRight>;
 
 /// A persistent set of intervals, each from its left end to its right end, both included. Contracts see it as the list of the
 /// intervals by left end and then by right end.
 pub struct Intervals {
-    pub(crate) map: IntervalMap,
+    pub(crate) map: OrdMap<MaxRight>,
 }
 
 impl Model for Intervals {
@@ -27,9 +25,9 @@ impl Model for Intervals {
     ghost use Rattle.std.specs.Map.{keys_of};
     ghost use Rattle.interval_map.specs.Intervals.{IsInterval};
 
-    ghost view = { λ s. keys_of s.map.entries };
+    ghost view = { λ s. keys_of s.map };
 
-    ghost invariant = { λ s. AllByRecursion IsInterval (keys_of s.map.entries) };
+    ghost invariant = { λ s. AllByRecursion IsInterval (keys_of s.map) };
 }
 
 impl Drop for Intervals {
@@ -54,9 +52,7 @@ impl Intervals {
     pub fn new() -> Intervals
         ensures { result ≡ [] }
     {
-        Intervals {
-            map: IntervalMap::empty(),
-        }
+        Intervals { map: OrdMap::new() }
     }
 
     /// How many intervals there are. O(1).
@@ -64,14 +60,14 @@ impl Intervals {
         ensures value { result ≡ length self.now }
         ensures intervals { IsIntervals self.now }
     {
-        self.map.size()
+        self.map.len()
     }
 
     /// Lends the map whose keys are the intervals. O(1).
     pub fn map(&self) -> &PlainMap<MaxRight>
         ensures { keys_of result.now.entries ≡ self.now }
     {
-        &self.map
+        self.map.as_map()
     }
 }
 

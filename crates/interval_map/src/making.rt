@@ -4,8 +4,9 @@ ghost use Rattle.std.specs.List.{AllByRecursion};
 ghost use Rattle.std.specs.Map.{keys_of};
 ghost use Rattle.interval_map.specs.Intervals.{IsInterval, with_intervals};
 
-use crate::intervals::{IntervalMap, Intervals};
+use crate::intervals::Intervals;
 use aug_monoid::{First, NoMemory, Pair64};
+use ord_map::OrdMap;
 use std::alloc::Global;
 
 // An entry for each interval.
@@ -27,7 +28,7 @@ impl Intervals {
         ensures { IfOk result (λ set. set ≡ with_intervals [] intervals.now) }
     {
         let entries = entries_of(alloc, intervals)?;
-        let map = IntervalMap::build_alone(alloc, &entries)?;
+        let map = OrdMap::from_pairs(alloc, &entries)?;
         Ok(Intervals { map })
     }
 
@@ -35,7 +36,7 @@ impl Intervals {
     pub fn union(&self, alloc: Global, other: &Intervals) -> Result<Intervals, NoMemory>
         ensures { IfOk result (λ set. set ≡ with_intervals self.now other.now) }
     {
-        let map = self.map.union_alone(alloc, &other.map, &First)?;
+        let map = self.map.union(alloc, &other.map, &First)?;
         Ok(Intervals { map })
     }
 }

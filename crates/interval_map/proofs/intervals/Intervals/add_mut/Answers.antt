@@ -9,7 +9,7 @@ use Rattle.interval_map.proofs.intervals.Intervals.add_mut.Goals as goal
 
 pub invariant_of-self : goal.invariant_of-self
 invariant_of-self c =
-    let old = c.self.inside.map.entries in
+    let old = c.self.inside.map in
     let fits : IsInterval c.interval.result = rw c.interval.ensures (c.requires, omega (arith, c.ranges.right.fits)) in
     by_outcome c.put.result c.put.ensures.entries c.put.ensures.kept
     (λ changed. subst (λ (is : List Pair64). AllByRecursion IsInterval is) (sym (ap keys_of changed ∙ keys-set old c.interval.result tt)) (with_ends (keys_of old) c.interval.result c.self.invariant fits))
@@ -17,4 +17,4 @@ invariant_of-self c =
 
 pub returns-clause-after : goal.returns-clause-after
 returns-clause-after c =
-    IfOk-weaker c.put.result _ _ (λ _ changed. ap keys_of changed ∙ keys-set c.self.inside.map.entries c.interval.result tt ∙ ap₂ with_interval c.self.view_is c.interval.ensures) c.put.ensures.entries
+    IfOk-weaker c.put.result _ _ (λ _ changed. ap keys_of changed ∙ keys-set c.self.inside.map c.interval.result tt ∙ ap₂ with_interval c.self.view_is c.interval.ensures) c.put.ensures.entries

@@ -5,6 +5,7 @@ use Rattle.interval_map.proofs.intervals.Intervals.contains.Goals as goal
 
 pub returns : goal.returns
 returns c =
-    let known = has_interval c.self.inside.map.entries c.interval.result c.has_key.result c.has_key.ensures in
-    subst (λ (i : Pair64). IsTrue c.has_key.result ↔ Contains c.args.self.now i) c.interval.ensures
-    (subst (λ (is : List Pair64). IsTrue c.has_key.result ↔ Contains is c.interval.result) c.self.view_is known)
+    let found = rw c.in-Ok.is at c.contains_key.ensures.value in
+    let known = has_interval c.self.inside.map c.interval.result c.in-Ok.found found in
+    subst (λ (i : Pair64). IsTrue c.in-Ok.found ↔ Contains c.args.self.now i) c.interval.ensures
+    (subst (λ (is : List Pair64). IsTrue c.in-Ok.found ↔ Contains is c.interval.result) c.self.view_is known)

@@ -9,11 +9,11 @@ use Rattle.interval_map.proofs.intervals.Intervals.del_mut.Goals as goal
 
 pub invariant_of-self : goal.invariant_of-self
 invariant_of-self c =
-    let old = c.self.inside.map.entries in
+    let old = c.self.inside.map in
     by_outcome c.del.result c.del.ensures.entries c.del.ensures.kept
     (λ changed. subst (λ (is : List Pair64). AllByRecursion IsInterval is) (sym (ap keys_of changed ∙ keys-drop_key old c.interval.result)) (without_ends (keys_of old) c.interval.result c.self.invariant))
     (λ kept. rw kept c.self.invariant)
 
 pub returns-clause-after : goal.returns-clause-after
 returns-clause-after c =
-    IfOk-weaker c.del.result _ _ (λ _ changed. ap keys_of changed ∙ keys-drop_key c.self.inside.map.entries c.interval.result ∙ ap₂ without_interval c.self.view_is c.interval.ensures) c.del.ensures.entries
+    IfOk-weaker c.del.result _ _ (λ _ changed. ap keys_of changed ∙ keys-drop_key c.self.inside.map c.interval.result ∙ ap₂ without_interval c.self.view_is c.interval.ensures) c.del.ensures.entries

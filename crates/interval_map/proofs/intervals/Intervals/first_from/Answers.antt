@@ -9,6 +9,6 @@ use Rattle.interval_map.proofs.intervals.Intervals.first_from.Goals as goal
 
 pub returns : goal.returns
 returns c =
-    let begun = keys-filter (λ j. is_ge (pair64_cmp j c.interval.result)) c.self.inside.map.entries in
+    let begun = keys-filter (λ j. is_ge (pair64_cmp j c.interval.result)) c.self.inside.map in
     let rest = ap keys_of c.in_ok-rest.ensures ∙ begun ∙ ap₂ intervals_from c.self.view_is c.interval.ensures in
     IfOk-weaker c.first_keys.result _ _ (λ keys same. same ∙ ap (take c.args.count) rest) c.first_keys.ensures

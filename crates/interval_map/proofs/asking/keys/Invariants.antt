@@ -1,6 +1,0 @@
-use Rattle.std.proofs.Common.{◌≡◌, ◌++◌}
-use Rattle.std.specs.Map.{keys_of}
-use Rattle.interval_map.proofs.asking.keys.Given as goal
-
-abbrev pub invariant-loop-entry : goal.invariant-loop-entry
-invariant-loop-entry l = keys_of l.map.entries ≡ l.keys.items ++ keys_of l.entry-iterator
