@@ -1,2 +1,4 @@
 mod Fronts
+mod Passes
+mod Past
 mod Runs

@@ -1,2 +1,4 @@
-pub mod Seats
+pub mod Ends
+pub mod Passing
 pub mod Reversed
+pub mod Seats

@@ -9,6 +9,8 @@
 
 mod cross;
 mod cursor;
+mod editing;
+mod finding;
 mod parts;
 mod places;
 mod planting;
@@ -18,5 +20,6 @@ mod seq;
 
 pub use cross::seq_crosses;
 pub use cursor::{Cursor, CursorOver};
+pub use finding::{SumFrom, SumTest};
 pub use seq::{Seq, SeqOver};
 pub use seq_core::{BlockSize, Ends, Fold, SumTop, SyncFold, Width};

@@ -2,7 +2,8 @@
 ghost use Rattle.std.specs.Prelude.{ℕ};
 
 /// How many items a block holds at least. A recursive type can have no const parameter, so trees have a parameter with this
-/// bound in place of a number. `tree_base` has the same of entries: neither of the two floors stands on the other.
+/// bound in place of a number. Maps have their block size from a shape of `tree_shape`; neither of the two floors stands on the
+/// other.
 pub trait BlockSize: Drop {
     const SIZE: usize;
 

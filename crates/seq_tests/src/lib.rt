@@ -6,7 +6,11 @@
 #[cfg(test)]
 mod borders;
 #[cfg(test)]
+mod editing;
+#[cfg(test)]
 mod examples;
+#[cfg(test)]
+mod finding;
 #[cfg(test)]
 mod growing;
 #[cfg(test)]
