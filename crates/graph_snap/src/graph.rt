@@ -1,5 +1,5 @@
 //! Graphs, which no call changes.
-ghost use Rattle.std.specs.Prelude.{◌≡◌, [], length, IfOk};
+ghost use Rattle.std.specs.Prelude.{◌≡◌, ◌↔◌, [], Contains, length, IfOk, IsTrue};
 ghost use Rattle.graph_snap.specs.Edges.{AreSets, IsGraph, edges_of, out_neighbours, pairs_of, sources};
 ghost use Rattle.graph_snap.specs.Edges.{with_edges, without_edges};
 ghost use Rattle.graph_snap.specs.Walks.{HasDistances, reach};
@@ -10,7 +10,9 @@ use crate::edge::{Edge, Reached};
 use crate::listing::edge_list;
 use crate::search::search;
 use crate::search_alone::search_alone;
-use crate::vertices::{Vertices, degree_at, with_sets, with_sets_into, without_sets};
+use crate::vertices::{
+    Vertices, degree_at, has_edge, neighbours_at, with_sets, with_sets_into, without_sets,
+};
 use aug_map::PlainMap;
 use aug_monoid::{NoMemory, Share};
 use fork_join::{Cut, Gate, On};
@@ -104,6 +106,20 @@ impl Graph {
         ensures { IfOk result (λ n. n ≡ length (out_neighbours self.now vertex)) }
     {
         degree_at(alloc, &self.vertices, vertex)
+    }
+
+    /// The out-neighbours of a vertex in order; none where it has no edge. O(log n + k) for n vertices and k out-neighbours.
+    pub fn neighbours(&self, alloc: Global, vertex: u64) -> Result<Vec<u64>, NoMemory>
+        ensures { IfOk result (λ list. list.items ≡ out_neighbours self.now vertex) }
+    {
+        neighbours_at(alloc, &self.vertices, vertex)
+    }
+
+    /// Whether an edge is there. O(log n) for n vertices.
+    pub fn has_edge(&self, alloc: Global, from: u64, to: u64) -> Result<bool, NoMemory>
+        ensures { IfOk result (λ found. IsTrue found ↔ Contains self.now (from, to)) }
+    {
+        has_edge(alloc, &self.vertices, from, to)
     }
 
     /// The graph with these edges too. O(k * log(n * k)) for k edges and n vertices, which forks where the cut allows it, but for

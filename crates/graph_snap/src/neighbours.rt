@@ -1,7 +1,8 @@
 //! Sets of out-neighbours.
-ghost use Rattle.std.specs.Prelude.{◌≡◌, [], length, IfOk, IfSome};
+ghost use Rattle.std.specs.Prelude.{◌≡◌, [], is_some, length, IfOk, IfSome};
+ghost use Rattle.std.specs.Map.{keys_of};
 ghost use Rattle.std.specs.Ordering.{nat_cmp};
-ghost use Rattle.map_model.specs.Entries.{IsIncreasing};
+ghost use Rattle.map_model.specs.Entries.{IsIncreasing, lookup};
 ghost use Rattle.map_model.specs.Operations.{build};
 ghost use Rattle.map_model.specs.SetOperations.{difference};
 ghost use Rattle.graph_snap.specs.Batches.{ends, has_elements};
@@ -127,6 +128,33 @@ impl Neighbours {
         ensures increasing { IsIncreasing nat_cmp self.now }
     {
         self.set.size()
+    }
+
+    /// The elements in order.
+    pub(crate) fn elements(&self, alloc: Global) -> Result<Vec<u64>, NoMemory>
+        ensures { IfOk result (λ list. list.items ≡ keys_of self.now) }
+    {
+        let mut list = Vec::new(alloc);
+        for entry in self.set.cursor(alloc) {
+            let (element, ()) = entry?;
+            list.push(element)?;
+        }
+        Ok(list)
+    }
+
+    /// Whether it has an element, with a counter that the caller gives up.
+    pub(crate) fn has<C: Ledger>(
+        &self,
+        alloc: Global,
+        element: u64,
+        blank: Blank,
+    ) -> Result<bool, NoMemory>
+        requires { IsFresh C.name C.parts blank }
+        ensures { IfOk result (λ found. found ≡ is_some (lookup nat_cmp self.now element)) }
+    {
+        let mut steps = Steps::<C>::start(blank);
+        let found = self.set.get(alloc, &element, &mut steps)?;
+        Ok(found.is_some())
     }
 
     /// The set of the ends of edges.

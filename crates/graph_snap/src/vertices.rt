@@ -1,5 +1,8 @@
 //! The map from vertices to their sets of out-neighbours.
-ghost use Rattle.std.specs.Prelude.{◌≡◌, length, IfOk};
+ghost use Rattle.std.specs.Prelude.{◌≡◌, is_some, length, IfOk};
+ghost use Rattle.std.specs.Map.{keys_of};
+ghost use Rattle.std.specs.Ordering.{nat_cmp};
+ghost use Rattle.map_model.specs.Entries.{lookup};
 ghost use Rattle.graph_snap.specs.Batches.{IsLessened, IsUnited};
 ghost use Rattle.graph_snap.specs.Edges.{AreSets, edges_of, set_at};
 ghost use Rattle.aug_monoid.specs.Fresh.{IsFresh};
@@ -51,6 +54,31 @@ pub(crate) fn degree_at(alloc: Global, vertices: &Vertices, vertex: u64) -> Resu
 {
     let set = set_at(alloc, vertices, vertex)?;
     Ok(set.size())
+}
+
+/// The elements of the set of a vertex.
+pub(crate) fn neighbours_at(
+    alloc: Global,
+    vertices: &Vertices,
+    vertex: u64,
+) -> Result<Vec<u64>, NoMemory>
+    ensures { IfOk result (λ list. list.items ≡ keys_of (set_at vertices.now.entries vertex)) }
+{
+    let set = set_at(alloc, vertices, vertex)?;
+    set.elements(alloc)
+}
+
+/// Whether the set of a vertex has an element.
+pub(crate) fn has_edge(
+    alloc: Global,
+    vertices: &Vertices,
+    from: u64,
+    to: u64,
+) -> Result<bool, NoMemory>
+    ensures { IfOk result (λ found. found ≡ is_some (lookup nat_cmp (set_at vertices.now.entries from) to)) }
+{
+    let set = set_at(alloc, vertices, from)?;
+    set.has::<Brand>(alloc, to, Blank::new(1))
 }
 
 /// The map with the edges of another one too.

@@ -129,3 +129,16 @@ fn found_in_fan<R: Threads + Abort + Sync>(rt: &R, alloc: Global) -> (usize, boo
 fn a_wide_front_is_searched_by_halves_that_meet(rt: HostRuntime) {
     assert_eq!(rt; found_in_fan(&rt, rt.alloc()), (502, true));
 }
+
+#[test]
+fn neighbours_and_edges_that_are_there(rt: HostRuntime) {
+    let alloc = rt.alloc();
+    let graph = graph_of(&rt, alloc, &ADDED, &[]);
+    let of_two = graph.neighbours(alloc, 2).expect(&rt, "memory");
+    assert_eq!(rt; of_two.as_slice(), [1, 4].as_slice());
+    let of_nine = graph.neighbours(alloc, 9).expect(&rt, "memory");
+    assert_eq!(rt; of_nine.len(), 0);
+    assert_eq!(rt; graph.has_edge(alloc, 3, 3).expect(&rt, "memory"), true);
+    assert_eq!(rt; graph.has_edge(alloc, 2, 3).expect(&rt, "memory"), false);
+    assert_eq!(rt; graph.has_edge(alloc, 9, 1).expect(&rt, "memory"), false);
+}

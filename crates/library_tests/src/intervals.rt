@@ -77,9 +77,22 @@ const OVERLAPS: &[(u64, u64, &[(u64, u64)])] = &[
     (9, 7, &[(3, 9), (7, u64::MAX)]),
 ];
 
+fn assert_first<R: Abort>(rt: &R, first: Result<Option<Pair64>, NoMemory>, ends: &[(u64, u64)]) {
+    let first = match first.expect(rt, "memory") {
+        Some(hit) => Some((hit.first, hit.second)),
+        None => None,
+    };
+    assert_eq!(rt; first, ends.first().copied());
+}
+
 fn assert_overlaps<R: Abort>(rt: &R, alloc: Global, intervals: &Intervals) {
     for (lo, hi, ends) in OVERLAPS {
         assert_hits(rt, intervals.overlap(alloc, *lo, *hi), ends);
+        assert_eq!(rt;
+            intervals.any_overlapping(alloc, *lo, *hi),
+            !ends.is_empty()
+        );
+        assert_first(rt, intervals.first_overlapping(alloc, *lo, *hi), ends);
     }
 }
 
