@@ -6,13 +6,13 @@ use Rattle.script.specs.declared.fault.Code.TheVariants as code
 use Rattle.serve_script.specs.Serve.{numbers_in, operation_of, query_of}
 use Rattle.serve_script.specs.Served.{served_commands_of}
 use Rattle.serve_script.specs.declared.commands.ServedCommand.{ServedCommand}
-use Rattle.serve_script.specs.declared.map_words.ServeOp.{ServeOp}
+use Rattle.op_runs.specs.declared.op.Op.{Op}
 use Rattle.serve_script.specs.declared.map_words.ServeQuery.{ServeQuery}
 use Rattle.check_input.specs.RunLine.{run_line}
 use Rattle.check_input.specs.declared.input.CheckInput.{CheckInput}
 
 -- the commands of an input of the tool serve
-abbrev pub serve_commands_of : List ℕ → Result (List (ServedCommand ServeOp ServeQuery)) BadRecord
+abbrev pub serve_commands_of : List ℕ → Result (List (ServedCommand Op ServeQuery)) BadRecord
 serve_commands_of bytes = served_commands_of operation_of numbers_in query_of bytes
 
 -- where there is a line `run`: the commands before it, and the text behind it; else the first bad record, or the missing line

@@ -8,7 +8,7 @@ ghost use Rattle.check_input.specs.RunLine as lines;
 use crate::finding::run_line;
 use aug_monoid::NoMemory;
 use script::{BadRecord, Code, Items, ScriptFault};
-use serve_script::{ServeCommand, ServeOp, ServeQuery, served_commands};
+use serve_script::{Op, ServeCommand, ServeQuery, served_commands};
 use std::alloc::Global;
 
 /// The commands of the tool serve, and a text that may be one of theirs.
@@ -35,7 +35,7 @@ fn parted(alloc: Global, bytes: &[u8], at: usize) -> Result<CheckInput, ScriptFa
 {
     let (before, _) = bytes.split_at(at);
     let (_, text) = bytes.split_at(at + 4);
-    let list = served_commands::<ServeOp, ServeQuery>(alloc, before)?;
+    let list = served_commands::<Op, ServeQuery>(alloc, before)?;
     let text = copied(alloc, text)?;
     Ok(CheckInput { list, text })
 }
@@ -45,7 +45,7 @@ fn fault_of(alloc: Global, bytes: &[u8]) -> Result<CheckInput, ScriptFault>
     ensures exact { Gives result (input_with bytes.now None) }
     ensures fault { IsErr result }
 {
-    let list = served_commands::<ServeOp, ServeQuery>(alloc, bytes)?;
+    let list = served_commands::<Op, ServeQuery>(alloc, bytes)?;
     Err(ScriptFault::Bad(BadRecord {
         place: list.items().len() as u64 + 1,
         code: Code::Run,

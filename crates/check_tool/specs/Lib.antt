@@ -1,1 +1,2 @@
+pub mod GraphVerdicts
 pub mod Output

@@ -5,20 +5,19 @@ use Rattle.run_check.specs.Verdicts.{IsTheVerdict}
 use Rattle.run_check.specs.declared.verdict.Verdict.{Verdict}
 use Rattle.run_check.specs.declared.verdict.Verdict.TheVariants.{Yes, No}
 use Rattle.script.specs.Lines.{line_of}
-use Rattle.serve_answers.specs.Answering.{answer_of, last_of}
+use Rattle.serve_answers.specs.MapAnswering.{answer_of, last_of}
 use Rattle.serve_input.specs.Converting.{records_of}
-use Rattle.serve_input.specs.MapOps.{op_of}
 use Rattle.serve_script.specs.declared.commands.ServedCommand.{ServedCommand}
-use Rattle.serve_script.specs.declared.map_words.ServeOp.{ServeOp}
+use Rattle.op_runs.specs.declared.op.Op.{Op}
 use Rattle.serve_script.specs.declared.map_words.ServeQuery.{ServeQuery}
 
 abbrev pub ServeCommands : Type 0
-ServeCommands = List (ServedCommand ServeOp ServeQuery)
+ServeCommands = List (ServedCommand Op ServeQuery)
 
 -- the one verdict on a text as one of the commands, run on a map that has no entries at first: yes exactly where the text is one
 -- that the tool serve may write for them
 abbrev pub IsVerdictOn : ServeCommands → List ℕ → Verdict → Type 0
-IsVerdictOn commands text verdict = IsTheVerdict step answer_of last_of [] (records_of op_of commands) text verdict
+IsVerdictOn commands text verdict = IsTheVerdict step answer_of last_of [] (records_of commands) text verdict
 
 abbrev pub reply_of : Verdict → List ℕ
 reply_of Yes = line_of (codes "yes") []

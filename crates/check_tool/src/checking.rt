@@ -1,15 +1,18 @@
 //! The verdict on a text, and its reply.
 ghost use Rattle.std.specs.Prelude.{◌≡◌, [], IfOk};
 ghost use Rattle.serve_script.specs.Served.{IsServeInput};
+ghost use Rattle.check_tool.specs.GraphVerdicts.{IsGraphVerdictOn};
 ghost use Rattle.check_tool.specs.Output.{IsCheckOutput, IsVerdictOn, reply_of};
 
 use aug_monoid::NoMemory;
 use fork_join::{Cut, Gate, On};
 use run_check::Verdict;
 use script::line;
-use serve_answers::ServedMap;
+use serve_answers::{GraphAnswers, MapAnswers};
 use serve_input::{callers, records};
-use serve_script::ServeCommand;
+use serve_script::{GserveCommand, ServeCommand};
+use served_graph::ServedGraph;
+use served_map::Served;
 use std::alloc::Global;
 use std::marker::Sync;
 use std::thread::Threads;
@@ -31,14 +34,31 @@ pub fn check<R: Threads + Sync, G: Gate>(
 {
     let records = records(alloc, commands)?;
     let callers = callers(commands);
-    run_check::check(
+    run_check::check::<MapAnswers, Served, R, G>(
         On { rt, gate, cut },
         alloc,
-        ServedMap::new(),
+        Served::new(),
         &records,
         callers,
         text,
     )
+}
+
+/// The same of a text of the tool gserve. A search among the reads goes over what it finds. The program has no tool for it: it is for
+/// those who keep texts of gserve, and for tests.
+pub fn check_gserve<R: Threads + Sync, G: Gate>(
+    on: On<R, G>,
+    alloc: Global,
+    commands: &[GserveCommand],
+    text: &[u8],
+) -> Result<Verdict, NoMemory>
+    requires { IsServeInput commands.now }
+    ensures { IfOk result (IsGraphVerdictOn commands.now text.now) }
+{
+    let records = records(alloc, commands)?;
+    let callers = callers(commands);
+    let graph = ServedGraph::new();
+    run_check::check::<GraphAnswers, ServedGraph, R, G>(on, alloc, graph, &records, callers, text)
 }
 
 // The line of a verdict.

@@ -4,10 +4,12 @@
 //! number of the least point that fails. It starts no thread of its own but for the changes of the map, and refuses only for
 //! want of memory.
 //!
-//! Tests: `program_tests`. Wrong bodies: here, in `wrong-bodies/`.
+//! `check_gserve` judges a text of the tool gserve, with a graph.
+//!
+//! Tests: `program_tests`, `serve_program_tests`. Wrong bodies: here, in `wrong-bodies/`.
 #![tactic(auto)]
 
 mod checking;
 
-pub use checking::{check, run_check};
+pub use checking::{check, check_gserve, run_check};
 pub use run_check::Verdict;

@@ -7,7 +7,7 @@ use aug_monoid::{NoMemory, Share};
 use std::alloc::Global;
 
 /// An operation on a map from numbers to numbers.
-#[derive(Clone, Copy, Debug)]
+#[derive(Clone, Copy, Debug, PartialEq, Eq)]
 pub enum Op {
     /// Sets a key to a value.
     Put { key: u64, val: u64 },

@@ -12,7 +12,7 @@ use Rattle.tool_input.specs.declared.parsed.Parsed.TheVariants as parsed
 use Rattle.seq_tool.specs.Effects.{seq_after, seq_reply}
 use Rattle.seq_tool.specs.Registers as sequences
 use Rattle.check_tool.specs.Output.{IsCheckOutput}
-use Rattle.gserve_tool.specs.Output.{IsGserveOutput}
+use Rattle.serve_tool.specs.GraphOutput.{IsGserveOutput}
 use Rattle.serve_tool.specs.Output.{IsServeOutput}
 
 -- each tool begins with nothing, and all but two have one text for an input: serve and gserve have that of any lawful history

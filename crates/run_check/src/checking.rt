@@ -22,6 +22,7 @@ use serve_text::{Answers, Record};
 use std::alloc::Global;
 use std::marker::Sync;
 use std::thread::Threads;
+use versions::SyncState;
 
 /// The least of the points 2 to 5 that does not hold.
 fn broken_point<O: Drop, Q: Drop>(
@@ -52,13 +53,13 @@ fn broken_point<O: Drop, Q: Drop>(
 }
 
 /// The verdict on a text of the form of a run, which tells this of the reads and the batches.
-fn judged<S: Answers, R: Threads + Sync, G: Gate>(
+fn judged<A: Answers<S>, S: SyncState, R: Threads + Sync, G: Gate>(
     on: On<R, G>,
     alloc: Global,
     base: S,
-    records: &[Record<S::Op, S::Query>],
+    records: &[Record<S::Op, A::Query>],
     callers: u32,
-    reads: &[Reading<'_, S::Query>],
+    reads: &[Reading<'_, A::Query>],
     told: &Told<'_>,
 ) -> Result<Verdict, NoMemory>
     requires numbered { AreNumbered records.now }
@@ -66,7 +67,7 @@ fn judged<S: Answers, R: Threads + Sync, G: Gate>(
     requires asked { asked_in reads.now ≡ reads_of records.now }
     requires numbers { numbers_in reads.now ≡ numbers_told told.now.replies.items }
     requires told { Tells (places_of records.now) told.now.replies.items told.now.order.items told.now.last.now (told_text told.now.replies.items told.now.order.items told.now.last.now) }
-    ensures { IfOk result (IsVerdict S.step S.answer_of S.last_of base records.now (told_text told.now.replies.items told.now.order.items told.now.last.now)) }
+    ensures { IfOk result (IsVerdict S.step A.answer_of A.last_of base records.now (told_text told.now.replies.items told.now.order.items told.now.last.now)) }
 {
     let placed = placed_of(alloc, records)?;
     let Some(ordered) = in_order(alloc, placed.as_slice(), told.order.as_slice())? else {
@@ -82,7 +83,7 @@ fn judged<S: Answers, R: Threads + Sync, G: Gate>(
         return Ok(Verdict::No { point });
     }
     let batches = batches_of(alloc, ordered)?;
-    if are_right(
+    if are_right::<A, S, R, G>(
         on,
         alloc,
         base,
@@ -104,17 +105,17 @@ fn judged<S: Answers, R: Threads + Sync, G: Gate>(
 /// once each, those between two reads' versions together, to the one state that there is, and each read is answered once, in the order of the
 /// versions. The state's own changes fork within the cut, and nothing enters the gate. It compares each answer with that of the text as it is
 /// made, and keeps none.
-pub fn check<S: Answers, R: Threads + Sync, G: Gate>(
+pub fn check<A: Answers<S>, S: SyncState, R: Threads + Sync, G: Gate>(
     on: On<R, G>,
     alloc: Global,
     base: S,
-    records: &[Record<S::Op, S::Query>],
+    records: &[Record<S::Op, A::Query>],
     callers: u32,
     text: &[u8],
 ) -> Result<Verdict, NoMemory>
     requires numbered { AreNumbered records.now }
     requires rounds { AreInRounds callers records.now }
-    ensures { IfOk result (IsTheVerdict S.step S.answer_of S.last_of base records.now text.now) }
+    ensures { IfOk result (IsTheVerdict S.step A.answer_of A.last_of base records.now text.now) }
 {
     let _few = records.len(); // for the proof alone: there are fewer than 2^64 records
     let places = read_places(alloc, records)?;
@@ -122,6 +123,6 @@ pub fn check<S: Answers, R: Threads + Sync, G: Gate>(
         return Ok(Verdict::No { point: 0 });
     };
     let reads = readings(alloc, records, told.replies.as_slice())?;
-    let verdict = judged(on, alloc, base, records, callers, reads.as_slice(), &told)?;
+    let verdict = judged::<A, S, R, G>(on, alloc, base, records, callers, reads.as_slice(), &told)?;
     Ok(verdict)
 }

@@ -14,17 +14,17 @@ use serve_text::Answers;
 use std::alloc::Global;
 use std::marker::Sync;
 use std::thread::Threads;
-use versions::Batch;
+use versions::{Batch, State, SyncState};
 
 /// The state after so many batches.
 #[derive(Drop)]
-struct Standing<S: Answers> {
+struct Standing<S: State> {
     state: S,
     number: u64,
 }
 
 /// The state after so many of the batches: those that it lacks are applied at once.
-fn advanced<S: Answers, R: Threads + Sync, G: Gate>(
+fn advanced<S: SyncState, R: Threads + Sync, G: Gate>(
     on: On<R, G>,
     alloc: Global,
     standing: Standing<S>,
@@ -49,45 +49,49 @@ fn advanced<S: Answers, R: Threads + Sync, G: Gate>(
 }
 
 /// Whether this is what the state answers. What it answers is made in the buffer.
-fn is_answer<S: Answers>(
+fn is_answer<A: Answers<S>, S: SyncState>(
     alloc: Global,
     state: &S,
-    query: &S::Query,
+    query: &A::Query,
     answer: &[u8],
     buffer: &mut Vec<u8>,
 ) -> Result<bool, NoMemory>
-    ensures { IfOk result (λ is. IsTrue is ↔ (answer.now ≡ S.answer_of state.now query.now)) }
+    ensures { IfOk result (λ is. IsTrue is ↔ (answer.now ≡ A.answer_of state.now query.now)) }
 {
     buffer.clear();
-    state.answer(alloc, query, buffer)?;
+    A::answer(alloc, state, query, buffer)?;
     Ok(answer == buffer.as_slice())
 }
 
 /// Whether this is the last line of a text that ends in the state.
-fn is_last_line<S: Answers>(alloc: Global, state: &S, last: &[u8]) -> Result<bool, NoMemory>
-    ensures { IfOk result (λ is. IsTrue is ↔ (last.now ≡ S.last_of state.now)) }
+fn is_last_line<A: Answers<S>, S: SyncState>(
+    alloc: Global,
+    state: &S,
+    last: &[u8],
+) -> Result<bool, NoMemory>
+    ensures { IfOk result (λ is. IsTrue is ↔ (last.now ≡ A.last_of state.now)) }
 {
     let mut made = Vec::new(alloc);
-    state.write_last(alloc, &mut made)?;
+    A::write_last(alloc, state, &mut made)?;
     Ok(last == made.as_slice())
 }
 
 /// One read: the state goes on to its number. None where the line tells another answer than the state's.
-fn take_turn<S: Answers, R: Threads + Sync, G: Gate>(
+fn take_turn<A: Answers<S>, S: SyncState, R: Threads + Sync, G: Gate>(
     on: On<R, G>,
     alloc: Global,
     batches: &[Batch<S::Op>],
-    read: &Reading<'_, S::Query>,
+    read: &Reading<'_, A::Query>,
     reply: &Reply<'_>,
     standing: Standing<S>,
     buffer: &mut Vec<u8>,
 ) -> Result<Option<Standing<S>>, NoMemory>
     requires least { standing.number ≤ read.now.number }
     requires most { read.now.number ≤ length batches.now }
-    ensures { IfOk result (λ o. MatchOption o (reply.now.answer ≢ S.answer_of (after S.step standing.state (between standing.number read.now.number batches.now)) read.now.asked.query) (λ next. (next.number ≡ read.now.number) × (next.state ≡ after S.step standing.state (between standing.number read.now.number batches.now)) × (reply.now.answer ≡ S.answer_of next.state read.now.asked.query))) }
+    ensures { IfOk result (λ o. MatchOption o (reply.now.answer ≢ A.answer_of (after S.step standing.state (between standing.number read.now.number batches.now)) read.now.asked.query) (λ next. (next.number ≡ read.now.number) × (next.state ≡ after S.step standing.state (between standing.number read.now.number batches.now)) × (reply.now.answer ≡ A.answer_of next.state read.now.asked.query))) }
 {
     let next = advanced(on, alloc, standing, batches, read.number)?;
-    if is_answer(alloc, &next.state, read.query, reply.answer, buffer)? {
+    if is_answer::<A, S>(alloc, &next.state, read.query, reply.answer, buffer)? {
         Ok(Some(next))
     } else {
         Ok(None)
@@ -95,19 +99,19 @@ fn take_turn<S: Answers, R: Threads + Sync, G: Gate>(
 }
 
 /// The reads in the order of their numbers: the state of the last of them. None where the line of one tells another answer than its own.
-fn take_turns<S: Answers, R: Threads + Sync, G: Gate>(
+fn take_turns<A: Answers<S>, S: SyncState, R: Threads + Sync, G: Gate>(
     on: On<R, G>,
     alloc: Global,
     base: S,
     batches: &[Batch<S::Op>],
-    reads: &[Reading<'_, S::Query>],
+    reads: &[Reading<'_, A::Query>],
     replies: &[Reply<'_>],
     turns: &[Turn],
 ) -> Result<Option<Standing<S>>, NoMemory>
     requires turns { AreTurns reads.now turns.now }
     requires told { length replies.now ≡ length reads.now }
     requires most { All (λ a. a.number ≤ length batches.now) reads.now }
-    ensures { IfOk result (λ o. MatchOption o (answers_told replies.now ≢ map (answer_to S.step S.answer_of base batches.now) reads.now) (λ last. (last.number ≤ length batches.now) × (last.state ≡ after S.step base (take last.number batches.now)) × (answers_told replies.now ≡ map (answer_to S.step S.answer_of base batches.now) reads.now))) }
+    ensures { IfOk result (λ o. MatchOption o (answers_told replies.now ≢ map (answer_to S.step A.answer_of base batches.now) reads.now) (λ last. (last.number ≤ length batches.now) × (last.state ≡ after S.step base (take last.number batches.now)) × (answers_told replies.now ≡ map (answer_to S.step A.answer_of base batches.now) reads.now))) }
 {
     let mut standing = Standing {
         state: base,
@@ -115,7 +119,7 @@ fn take_turns<S: Answers, R: Threads + Sync, G: Gate>(
     };
     let mut buffer = Vec::new(alloc);
     for turn in turns {
-        let Some(next) = take_turn(
+        let Some(next) = take_turn::<A, S, R, G>(
             on,
             alloc,
             batches,
@@ -133,7 +137,7 @@ fn take_turns<S: Answers, R: Threads + Sync, G: Gate>(
 }
 
 /// Whether the last line is that of the state after all batches.
-fn ends_right<S: Answers, R: Threads + Sync, G: Gate>(
+fn ends_right<A: Answers<S>, S: SyncState, R: Threads + Sync, G: Gate>(
     on: On<R, G>,
     alloc: Global,
     standing: Standing<S>,
@@ -141,31 +145,39 @@ fn ends_right<S: Answers, R: Threads + Sync, G: Gate>(
     last: &[u8],
 ) -> Result<bool, NoMemory>
     requires { standing.number ≤ length batches.now }
-    ensures { IfOk result (λ right. IsTrue right ↔ (last.now ≡ S.last_of (after S.step standing.state (drop standing.number batches.now)))) }
+    ensures { IfOk result (λ right. IsTrue right ↔ (last.now ≡ A.last_of (after S.step standing.state (drop standing.number batches.now)))) }
 {
     let all = advanced(on, alloc, standing, batches, batches.len() as u64)?;
-    is_last_line(alloc, &all.state, last)
+    is_last_line::<A, S>(alloc, &all.state, last)
 }
 
 /// Whether the lines tell what the reads are answered, and the last line is right. The batches between two of the reads' versions are applied
 /// at once, each batch once, to the one state that there is, which a read asks when it has as many batches as the read's number says.
-pub(crate) fn are_right<S: Answers, R: Threads + Sync, G: Gate>(
+pub(crate) fn are_right<A: Answers<S>, S: SyncState, R: Threads + Sync, G: Gate>(
     on: On<R, G>,
     alloc: Global,
     base: S,
     batches: &[Batch<S::Op>],
-    reads: &[Reading<'_, S::Query>],
+    reads: &[Reading<'_, A::Query>],
     replies: &[Reply<'_>],
     last: &[u8],
 ) -> Result<bool, NoMemory>
     requires told { length replies.now ≡ length reads.now }
     requires most { All (λ a. a.number ≤ length batches.now) reads.now }
-    ensures { IfOk result (λ right. IsTrue right ↔ AreRight S.step S.answer_of S.last_of base batches.now reads.now replies.now last.now) }
+    ensures { IfOk result (λ right. IsTrue right ↔ AreRight S.step A.answer_of A.last_of base batches.now reads.now replies.now last.now) }
 {
     let turns = sorted_turns(alloc, reads)?;
-    let Some(standing) = take_turns(on, alloc, base, batches, reads, replies, turns.as_slice())?
+    let Some(standing) = take_turns::<A, S, R, G>(
+        on,
+        alloc,
+        base,
+        batches,
+        reads,
+        replies,
+        turns.as_slice(),
+    )?
     else {
         return Ok(false);
     };
-    ends_right(on, alloc, standing, batches, last)
+    ends_right::<A, S, R, G>(on, alloc, standing, batches, last)
 }

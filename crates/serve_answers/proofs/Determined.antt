@@ -3,8 +3,8 @@ use Rattle.std.proofs.Common.{◌≡◌, ℕ, List}
 use Rattle.op_runs.specs.Steps.{step}
 use Rattle.op_runs.specs.declared.op.Op.{Op}
 use Rattle.serve_script.specs.declared.map_words.ServeQuery.{ServeQuery}
-use Rattle.serve_answers.specs.Answering.{answer_of, last_of}
-use Rattle.serve_answers.specs.InLine.{answer_in_line}
+use Rattle.serve_answers.specs.MapAnswering.{answer_of, last_of}
+use Rattle.serve_answers.specs.MapInLine.{answer_in_line}
 use Rattle.serve_text.specs.Determined.{AreNumbered}
 use Rattle.serve_text.specs.Texts.{IsServeText}
 use Rattle.serve_text.specs.declared.record.Record.{Record}

@@ -1,2 +1,4 @@
-pub mod Answering
-pub mod InLine
+pub mod GraphAnswering
+pub mod GraphInLine
+pub mod MapAnswering
+pub mod MapInLine

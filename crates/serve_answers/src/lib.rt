@@ -1,14 +1,13 @@
-//! A served map that answers the queries of the tool serve by text.
+//! What a served map and a served graph answer by text.
 //!
-//! `ServedMap` says what `serve_text` asks of a state: the reply to a query of a version, and the last line of the whole text.
-//! The map itself and its operations are those of `served_map`.
+//! `MapAnswers` and `GraphAnswers` say what `serve_text` asks of a state: the reply to a query of a version, and the last line of
+//! the whole text. The states and their operations are those of `served_map` and `served_graph`.
 //!
 //! Tests: `serve_tests`. Wrong bodies: none here; `serve_tool` states these clauses of whole texts.
 #![tactic(auto)]
 
-mod answering;
-mod cross;
-mod served;
+mod graphs;
+mod maps;
 
-pub use cross::served_crosses;
-pub use served::ServedMap;
+pub use graphs::GraphAnswers;
+pub use maps::MapAnswers;

@@ -7,8 +7,9 @@ use aug_monoid::NoMemory;
 use batch_store::{Batch, Caller, Refused, Store, Version};
 use fork_join::{FreeGate, On};
 use op_runs::Op;
-use serve_answers::ServedMap;
+use serve_answers::MapAnswers;
 use serve_text::Answers;
+use served_map::Served;
 use std::alloc::Global;
 use std::marker::Sync;
 use std::rt::Clock;
@@ -28,12 +29,12 @@ const VALUES: u64 = 1_000_000;
 /// A store with its one caller.
 #[derive(Drop)]
 struct Alone {
-    store: Store<ServedMap>,
-    caller: Caller<ServedMap>,
+    store: Store<Served>,
+    caller: Caller<Served>,
 }
 
 fn start_alone(alloc: Global) -> Result<Alone> {
-    let (store, callers) = Store::start(alloc, ServedMap::new(), 1)?;
+    let (store, callers) = Store::start(alloc, Served::new(), 1)?;
     let mut callers = callers;
     let caller = callers.pop().context("there is one caller")?;
     Ok(Alone { store, caller })
@@ -96,7 +97,7 @@ impl Alone {
         alloc: Global,
         numbers: &mut Numbers,
         count: usize,
-    ) -> Result<Vec<Box<Version<ServedMap>>>, NoMemory> {
+    ) -> Result<Vec<Box<Version<Served>>>, NoMemory> {
         let mut kept = Vec::with_capacity(alloc, count)?;
         for _ in 0..count {
             let change = (numbers.below(ENTRIES), numbers.below(VALUES));
@@ -111,7 +112,7 @@ impl Alone {
     fn last<R: Wait>(&mut self, rt: &R, alloc: Global) -> Result<Vec<u8>, NoMemory> {
         let version = self.caller.snapshot(rt, alloc)?;
         let mut line = Vec::new(alloc);
-        version.state().write_last(alloc, &mut line)?;
+        MapAnswers::write_last(alloc, version.state(), &mut line)?;
         Ok(line)
     }
 }

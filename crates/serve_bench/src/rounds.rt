@@ -8,10 +8,11 @@ use aug_monoid::NoMemory;
 use batch_store::Store;
 use fork_join::{FreeGate, On};
 use op_runs::Op;
-use serve_answers::ServedMap;
+use serve_answers::MapAnswers;
 use serve_rounds::{finish, run_rounds};
-use serve_script::{ServeOp, ServeQuery, served_commands};
+use serve_script::{ServeQuery, served_commands};
 use serve_text::Record;
+use served_map::Served;
 use std::alloc::Global;
 use std::marker::Sync;
 use std::rt::Clock;
@@ -29,9 +30,9 @@ fn served<R: Threads + Wait + Sync>(
     requires few { (1 ≤ callers) × (callers ≤ 64) }
     requires rounds { AreInRounds callers records.now }
 {
-    let (store, callers) = Store::start(alloc, ServedMap::new(), callers)?;
-    let served = run_rounds(on, alloc, store, callers, records)?;
-    finish(on, alloc, served)
+    let (store, callers) = Store::start(alloc, Served::new(), callers)?;
+    let played = run_rounds::<MapAnswers, Served, R, FreeGate>(on, alloc, store, callers, records)?;
+    finish::<MapAnswers, Served, R, FreeGate>(on, alloc, played)
 }
 
 /// Runs the rounds of an input's records.
@@ -40,7 +41,7 @@ pub(crate) fn time<R: Threads + Wait + Sync + Clock>(
     alloc: Global,
     bytes: &[u8],
 ) -> Result<Timed> {
-    let commands = served_commands::<ServeOp, ServeQuery>(alloc, bytes)?;
+    let commands = served_commands::<Op, ServeQuery>(alloc, bytes)?;
     let records: Vec<Record<Op, ServeQuery>> = serve_input::records(alloc, commands.items())?;
     let callers = serve_input::callers(commands.items());
     let start = Instant::now(on.rt)?;

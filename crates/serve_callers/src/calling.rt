@@ -8,7 +8,7 @@ ghost use Rattle.serve_callers.specs.Running.{HasRun};
 
 use crate::lines::Lines;
 use aug_monoid::{NoMemory, Share};
-use batch_store::{Batch, Caller, Refused};
+use batch_store::{Batch, Caller, Refused, State};
 use fork_join::Gate;
 use serve_text::{Act, Answers, Record, reply_line};
 use std::alloc::Global;
@@ -18,7 +18,7 @@ use std::sync::Wait;
 const BEFORE_READS: u64 = 256;
 
 /// Submits a batch with its record's number as its tag.
-fn submit<S: Answers>(
+fn submit<S: State>(
     alloc: Global,
     caller: &mut Caller<S>,
     place: u64,
@@ -36,36 +36,36 @@ fn submit<S: Answers>(
 }
 
 /// The line of a read, answered at once by the newest version.
-fn read<S: Answers, R: Wait, G: Gate>(
+fn read<A: Answers<S>, S: State, R: Wait, G: Gate>(
     rt: &R,
     alloc: Global,
     gate: &G,
     caller: &mut Caller<S>,
     place: u64,
-    query: &S::Query,
+    query: &A::Query,
 ) -> Result<Vec<u8>, NoMemory>
     ensures same { SameCaller caller.old caller.new }
     ensures sent { caller.new.sent ≡ caller.old.sent }
     ensures seen { IsPrefix caller.old.reader.seen caller.new.reader.seen }
     ensures line { IfOk result (λ line. line.items ≡ reply_head place (length caller.new.reader.seen)
-        ++ (S.answer_of (state_of S.step (history caller.new.reader.base caller.new.reader.seen)) query.now ++ line_feed ∷ [])) }
+        ++ (A.answer_of (state_of S.step (history caller.new.reader.base caller.new.reader.seen)) query.now ++ line_feed ∷ [])) }
 {
     gate.enter(BEFORE_READS + caller.number() as u64);
     let version = caller.snapshot(rt, alloc)?;
-    let line = reply_line(alloc, place, &version, query)?;
+    let line = reply_line::<A, S>(alloc, place, &version, query)?;
     Ok(line)
 }
 
 /// One record of the caller's.
-fn run_record<S: Answers, R: Wait, G: Gate>(
+fn run_record<A: Answers<S>, S: State, R: Wait, G: Gate>(
     rt: &R,
     alloc: Global,
     gate: &G,
-    record: &Record<S::Op, S::Query>,
+    record: &Record<S::Op, A::Query>,
     caller: &mut Caller<S>,
     lines: &mut Lines,
 ) -> Result<(), NoMemory>
-    ensures { OnOk result ((new : List (List ℕ)) × (lines.new ≡ lines.old ++ new) × HasRun S.step S.answer_of («record».now ∷ []) caller.old caller.new new) }
+    ensures { OnOk result ((new : List (List ℕ)) × (lines.new ≡ lines.old ++ new) × HasRun S.step A.answer_of («record».now ∷ []) caller.old caller.new new) }
 {
     match &record.act {
         Act::Submit { batch } => {
@@ -73,7 +73,7 @@ fn run_record<S: Answers, R: Wait, G: Gate>(
             Ok(())
         }
         Act::Read { query } => {
-            let line = read(rt, alloc, gate, caller, record.place, query)?;
+            let line = read::<A, S, R, G>(rt, alloc, gate, caller, record.place, query)?;
             lines.push(line)?;
             Ok(())
         }
@@ -81,39 +81,39 @@ fn run_record<S: Answers, R: Wait, G: Gate>(
 }
 
 /// The record, if it is of the caller with this number.
-fn run_own<S: Answers, R: Wait, G: Gate>(
+fn run_own<A: Answers<S>, S: State, R: Wait, G: Gate>(
     rt: &R,
     alloc: Global,
     gate: &G,
     number: u32,
-    record: &Record<S::Op, S::Query>,
+    record: &Record<S::Op, A::Query>,
     caller: &mut Caller<S>,
     lines: &mut Lines,
 ) -> Result<(), NoMemory>
-    ensures { OnOk result ((new : List (List ℕ)) × (lines.new ≡ lines.old ++ new) × HasRun S.step S.answer_of (records_of number («record».now ∷ [])) caller.old caller.new new) }
+    ensures { OnOk result ((new : List (List ℕ)) × (lines.new ≡ lines.old ++ new) × HasRun S.step A.answer_of (records_of number («record».now ∷ [])) caller.old caller.new new) }
 {
     if record.caller != number {
         return Ok(());
     }
-    run_record(rt, alloc, gate, record, caller, lines)?;
+    run_record::<A, S, R, G>(rt, alloc, gate, record, caller, lines)?;
     Ok(())
 }
 
 /// The caller's own of the records, in order: it submits batches, and answers each read by a version that it has seen between the
 /// first and the last record, whose number never falls from one read to the next. After a refusal nothing is said of the lines.
-pub fn run_caller<S: Answers, R: Wait, G: Gate>(
+pub fn run_caller<A: Answers<S>, S: State, R: Wait, G: Gate>(
     rt: &R,
     alloc: Global,
     gate: &G,
-    records: &[Record<S::Op, S::Query>],
+    records: &[Record<S::Op, A::Query>],
     caller: &mut Caller<S>,
     lines: &mut Lines,
 ) -> Result<(), NoMemory>
-    ensures { OnOk result ((new : List (List ℕ)) × (lines.new ≡ lines.old ++ new) × HasRun S.step S.answer_of (records_of caller.old.number records.now) caller.old caller.new new) }
+    ensures { OnOk result ((new : List (List ℕ)) × (lines.new ≡ lines.old ++ new) × HasRun S.step A.answer_of (records_of caller.old.number records.now) caller.old caller.new new) }
 {
     let number = caller.number();
     for record in records {
-        run_own(rt, alloc, gate, number, record, caller, lines)?;
+        run_own::<A, S, R, G>(rt, alloc, gate, number, record, caller, lines)?;
     }
     Ok(())
 }

@@ -72,33 +72,33 @@ module _ {P Q : Type 0} where
   same_round : (n round same : ℕ) (rs : List (Record P Q)) → same ≡ round → InOrder n same rs → InOrder n round rs
   same_round n round same rs e o = rw (← e) o
 
-module _ {O P Q : Type 0} (op_of : O → P) where
+module _ {O Q : Type 0} where
   -- the records so far, and those of the commands that are left
-  pub records-more : (round : ℕ) (cs : List (ServedCommand O Q)) (i : ℕ) (c : ServedCommand O Q) (front whole : List (Record P Q)) → i < length cs → c ≡ get_or cs i c
-      → whole ≡ front ++ records_from op_of round (drop i cs) → whole ≡ (front ++ records_by op_of round c) ++ records_from op_of (round + rounds_in c) (drop (i + 1) cs)
+  pub records-more : (round : ℕ) (cs : List (ServedCommand O Q)) (i : ℕ) (c : ServedCommand O Q) (front whole : List (Record O Q)) → i < length cs → c ≡ get_or cs i c
+      → whole ≡ front ++ records_from round (drop i cs) → whole ≡ (front ++ records_by round c) ++ records_from (round + rounds_in c) (drop (i + 1) cs)
   unfolding records_from
   records-more round cs i c front whole h is so_far =
-      let next : records_from op_of round (drop i cs) ≡ records_by op_of round c ++ records_from op_of (round + rounds_in c) (drop (i + 1) cs) = rw (drop_more cs i c h, ← is) refl in
-      so_far ∙ ap (λ rest. front ++ rest) next ∙ sym (append_assoc front (records_by op_of round c) _)
+      let next : records_from round (drop i cs) ≡ records_by round c ++ records_from (round + rounds_in c) (drop (i + 1) cs) = rw (drop_more cs i c h, ← is) refl in
+      so_far ∙ ap (λ rest. front ++ rest) next ∙ sym (append_assoc front (records_by round c) _)
 
-  pub records-end : (round : ℕ) (cs : List (ServedCommand O Q)) (i : ℕ) → length cs ≤ i → records_from op_of round (drop i cs) ≡ []
+  pub records-end : (round : ℕ) (cs : List (ServedCommand O Q)) (i : ℕ) → length cs ≤ i → records_from round (drop i cs) ≡ []
   unfolding records_from
   records-end round cs i h = rw (drop_all i cs h) refl
 
-  later : (n round : ℕ) (cs : List (ServedCommand O Q)) → AllByRecursion (IsOfCaller n) cs → InOrder n round (records_from op_of round cs)
+  later : (n round : ℕ) (cs : List (ServedCommand O Q)) → AllByRecursion (IsOfCaller n) cs → InOrder n round (records_from round cs)
   unfolding records_from
   later n round [] h = none_in_order n round
   later n round (command.Serve place m ∷ cs) h = absurd h.0
   later n round (command.Batch place c ops ∷ cs) h =
       let e : round + 0 ≡ round = omega arith in
-      in_order-cons n _ (records_from op_of (round + 0) cs) h.0.0 (same_round n round (round + 0) (records_from op_of (round + 0) cs) e (later n (round + 0) cs h.1))
+      in_order-cons n _ (records_from (round + 0) cs) h.0.0 (same_round n round (round + 0) (records_from (round + 0) cs) e (later n (round + 0) cs h.1))
   later n round (command.Read place c query ∷ cs) h =
       let e : round + 0 ≡ round = omega arith in
-      in_order-cons n _ (records_from op_of (round + 0) cs) h.0 (same_round n round (round + 0) (records_from op_of (round + 0) cs) e (later n (round + 0) cs h.1))
-  later n round (command.Round place ∷ cs) h = earlier n round (records_from op_of (round + 1) cs) (later n (round + 1) cs h.1)
+      in_order-cons n _ (records_from (round + 0) cs) h.0 (same_round n round (round + 0) (records_from (round + 0) cs) e (later n (round + 0) cs h.1))
+  later n round (command.Round place ∷ cs) h = earlier n round (records_from (round + 1) cs) (later n (round + 1) cs h.1)
 
   -- so the rounds can run them
-  pub in_rounds : (cs : List (ServedCommand O Q)) → IsServeInput cs → AreInRounds (callers_of cs) (records_of op_of cs)
+  pub in_rounds : (cs : List (ServedCommand O Q)) → IsServeInput cs → AreInRounds (callers_of cs) (records_of cs)
   unfolding records_from
   in_rounds [] input = let o = none_in_order 1 0 in record { callers_are = o.by; rounds_rise = o.rise }
   in_rounds (command.Serve place n ∷ cs) input = let o = later n 0 cs input.callers.2 in record { callers_are = o.by; rounds_rise = o.rise }

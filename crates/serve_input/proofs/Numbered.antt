@@ -44,29 +44,29 @@ module _ {P Q : Type 0} where
 heads : (x y : ℕ) (xs ys : List ℕ) → x ∷ xs ≡ y ∷ ys → (x ≡ y) × (xs ≡ ys)
 heads x y xs ys e = (cc, cc)
 
-module _ {O P Q : Type 0} (op_of : O → P) where
-  rises : (round low high : ℕ) (cs : List (ServedCommand O Q)) → low + length cs ≤ high → map place_of cs ≡ range_with_len low (length cs) → Rises low high (records_from op_of round cs)
+module _ {O Q : Type 0} where
+  rises : (round low high : ℕ) (cs : List (ServedCommand O Q)) → low + length cs ≤ high → map place_of cs ≡ range_with_len low (length cs) → Rises low high (records_from round cs)
   unfolding records_from
   rises round low high [] h places = rises-nil low high
   rises round low high (command.Serve place n ∷ cs) h places =
       let p = heads place low (map place_of cs) (range_with_len (low + 1) (length cs)) places in
-      rises-earlier low high (records_from op_of (round + 0) cs) (rises (round + 0) (low + 1) high cs (omega (arith, h)) p.1)
+      rises-earlier low high (records_from (round + 0) cs) (rises (round + 0) (low + 1) high cs (omega (arith, h)) p.1)
   rises round low high (command.Batch place c ops ∷ cs) h places =
       let p = heads place low (map place_of cs) (range_with_len (low + 1) (length cs)) places in
-      rises-cons low high _ (records_from op_of (round + 0) cs) p.0 (omega (arith, h)) (rises (round + 0) (low + 1) high cs (omega (arith, h)) p.1)
+      rises-cons low high _ (records_from (round + 0) cs) p.0 (omega (arith, h)) (rises (round + 0) (low + 1) high cs (omega (arith, h)) p.1)
   rises round low high (command.Read place c query ∷ cs) h places =
       let p = heads place low (map place_of cs) (range_with_len (low + 1) (length cs)) places in
-      rises-cons low high _ (records_from op_of (round + 0) cs) p.0 (omega (arith, h)) (rises (round + 0) (low + 1) high cs (omega (arith, h)) p.1)
+      rises-cons low high _ (records_from (round + 0) cs) p.0 (omega (arith, h)) (rises (round + 0) (low + 1) high cs (omega (arith, h)) p.1)
   rises round low high (command.Round place ∷ cs) h places =
       let p = heads place low (map place_of cs) (range_with_len (low + 1) (length cs)) places in
-      rises-earlier low high (records_from op_of (round + 1) cs) (rises (round + 1) (low + 1) high cs (omega (arith, h)) p.1)
+      rises-earlier low high (records_from (round + 1) cs) (rises (round + 1) (low + 1) high cs (omega (arith, h)) p.1)
 
-  pub numbered : (cs : List (ServedCommand O Q)) → IsServeInput cs → length cs < 2 ^ 64 → AreNumbered (records_of op_of cs)
+  pub numbered : (cs : List (ServedCommand O Q)) → IsServeInput cs → length cs < 2 ^ 64 → AreNumbered (records_of cs)
   numbered cs input few =
       let all = rises 0 1 (1 + length cs) cs (omega arith) input.places in
       record { rise = all.rise; fit = λ k d inside. omega (arith, few, all.below k d inside) }
 
   -- two histories of an input with one text are the same
-  pub input_determined : {S : Type 0} (step : S → P → S) (answer : S → Q → List ℕ) (last : S → List ℕ) (base : S) → ((state : S) (query : Q) → HasNoLineFeed (answer state query))
-      → (cs : List (ServedCommand O Q)) → IsServeInput cs → length cs < 2 ^ 64 → (text : List ℕ) (a b : IsServeText step answer last base (records_of op_of cs) text) → (a.reads ≡ b.reads) × (a.journal ≡ b.journal)
-  input_determined step answer last base lines cs input few = determined step answer last base lines (records_of op_of cs) (numbered cs input few)
+  pub input_determined : {S : Type 0} (step : S → O → S) (answer : S → Q → List ℕ) (last : S → List ℕ) (base : S) → ((state : S) (query : Q) → HasNoLineFeed (answer state query))
+      → (cs : List (ServedCommand O Q)) → IsServeInput cs → length cs < 2 ^ 64 → (text : List ℕ) (a b : IsServeText step answer last base (records_of cs) text) → (a.reads ≡ b.reads) × (a.journal ≡ b.journal)
+  input_determined step answer last base lines cs input few = determined step answer last base lines (records_of cs) (numbered cs input few)

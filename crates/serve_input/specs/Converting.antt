@@ -1,5 +1,5 @@
--- What the commands of a tool that serves callers ask of what is served.
-use Rattle.std.specs.Prelude.{◌+◌, ◌<◌, ◌^◌, ◌++◌, ℕ, List, [], ◌∷◌, map}
+-- The records of the commands of a tool that serves callers.
+use Rattle.std.specs.Prelude.{◌+◌, ◌<◌, ◌^◌, ◌++◌, ℕ, List, [], ◌∷◌}
 use Rattle.serve_script.specs.declared.commands.ServedCommand.{ServedCommand}
 use Rattle.serve_script.specs.declared.commands.ServedCommand.TheVariants as command
 use Rattle.serve_text.specs.declared.record.Act.TheVariants as act
@@ -27,19 +27,17 @@ module _ {O Q : Type 0} where
   HasSmallCaller (command.Read place c query) = c < 2 ^ 32
   HasSmallCaller (command.Round place) = Unit {0}
 
--- an operation that a record says is this one of what is served
-module _ {O P Q : Type 0} (op_of : O → P) where
   -- the record of a batch or a read in a round
-  abbrev pub records_by : ℕ → ServedCommand O Q → List (Record P Q)
+  abbrev pub records_by : ℕ → ServedCommand O Q → List (Record O Q)
   records_by round (command.Serve place n) = []
-  records_by round (command.Batch place c ops) = record { place = place; caller = c; round = round; act = act.Submit (map op_of ops) } ∷ []
+  records_by round (command.Batch place c ops) = record { place = place; caller = c; round = round; act = act.Submit ops } ∷ []
   records_by round (command.Read place c query) = record { place = place; caller = c; round = round; act = act.Read query } ∷ []
   records_by round (command.Round place) = []
 
   -- the records of commands from a round on
-  unfoldable pub records_from : ℕ → List (ServedCommand O Q) → List (Record P Q)
+  unfoldable pub records_from : ℕ → List (ServedCommand O Q) → List (Record O Q)
   records_from round [] = []
   records_from round (c ∷ cs) = records_by round c ++ records_from (round + rounds_in c) cs
 
-  abbrev pub records_of : List (ServedCommand O Q) → List (Record P Q)
+  abbrev pub records_of : List (ServedCommand O Q) → List (Record O Q)
   records_of commands = records_from 0 commands

@@ -1,2 +1,1 @@
-pub mod MapOps
 pub mod Converting

@@ -1,5 +1,5 @@
-//! Commands as records: each with its round, and its operations as those of what is served.
-ghost use Rattle.std.specs.Prelude.{◌≡◌, ◌≤◌, ◌++◌, IfOk, map};
+//! Commands as records, each with its round.
+ghost use Rattle.std.specs.Prelude.{◌≡◌, ◌≤◌, ◌++◌, IfOk};
 ghost use Rattle.serve_script.specs.Served.{IsServeInput};
 ghost use Rattle.serve_input.specs.Converting as converted;
 ghost use Rattle.serve_input.specs.Converting.{HasSmallCaller};
@@ -12,39 +12,29 @@ use serve_text::{Act, Record};
 use std::alloc::Global;
 use versions::Batch;
 
-/// An operation that a record says, which is an operation `P` of what is served.
-pub trait Says<P>: Drop {
-    /// The operation that it is.
-    ghost op_of: { Self → P };
-
-    /// The operation that it is.
-    fn op(&self) -> P
-        ensures { result ≡ op_of self.now };
-}
-
-fn batch_of<P: Share, O: Says<P>>(alloc: Global, ops: &[O]) -> Result<Batch<P>, NoMemory>
-    ensures { IfOk result (λ batch. batch ≡ map O.op_of ops.now) }
+fn batch_of<O: Share>(alloc: Global, ops: &[O]) -> Result<Batch<O>, NoMemory>
+    ensures { IfOk result (λ batch. batch ≡ ops.now) }
 {
     let mut list = Vec::with_capacity(alloc, ops.len())?;
     for op in ops {
-        list.push(op.op())?;
+        list.push(op.share(alloc)?)?;
     }
     Batch::new(alloc, list)
 }
 
 // Appends the record of a command, or nothing where it is no batch and no read.
-fn push_record<P: Share, O: Says<P>, Q: Copy>(
+fn push_record<O: Share, Q: Copy>(
     alloc: Global,
     round: u64,
     command: &ServedCommand<O, Q>,
-    records: &mut Vec<Record<P, Q>>,
+    records: &mut Vec<Record<O, Q>>,
 ) -> Result<(), NoMemory>
     requires { HasSmallCaller command.now }
-    ensures { IfOk result (λ _. records.new.items ≡ records.old.items ++ converted.records_by O.op_of round command.now) }
+    ensures { IfOk result (λ _. records.new.items ≡ records.old.items ++ converted.records_by round command.now) }
 {
     let (place, caller, act) = match command {
         ServedCommand::Batch { place, c, ops } => {
-            let batch = batch_of::<P, O>(alloc, ops.items())?;
+            let batch = batch_of(alloc, ops.items())?;
             (*place, *c as u32, Act::Submit { batch })
         }
         ServedCommand::Read { place, c, query } => {
@@ -73,12 +63,12 @@ fn rounds_in<O: Drop, Q: Drop>(command: &ServedCommand<O, Q>) -> u64
 
 /// The batches and reads of an input as records, in order, in linear time: their numbers rise. Rounds count from 0, and one
 /// without records leaves none.
-pub fn records<P: Share, O: Says<P>, Q: Copy>(
+pub fn records<O: Share, Q: Copy>(
     alloc: Global,
     commands: &[ServedCommand<O, Q>],
-) -> Result<Vec<Record<P, Q>>, NoMemory>
+) -> Result<Vec<Record<O, Q>>, NoMemory>
     requires { IsServeInput commands.now }
-    ensures value { IfOk result (λ records. records.items ≡ converted.records_of O.op_of commands.now) }
+    ensures value { IfOk result (λ records. records.items ≡ converted.records_of commands.now) }
     ensures rounds { IfOk result (λ records. AreInRounds (converted.callers_of commands.now) records.items) }
     ensures numbered { IfOk result (λ records. AreNumbered records.items) }
 {
@@ -86,7 +76,7 @@ pub fn records<P: Share, O: Says<P>, Q: Copy>(
     let mut records = Vec::new(alloc);
     let mut round = 0;
     for command in commands {
-        push_record::<P, O, Q>(alloc, round, command, &mut records)?;
+        push_record(alloc, round, command, &mut records)?;
         round += rounds_in(command);
     }
     Ok(records)

@@ -1,12 +1,11 @@
 //! From the commands of a tool that serves callers to the records that rounds run.
 //!
-//! `records` makes batches and reads in rounds of the commands of a tool, where each operation stands for one of the state that
-//! is served (`Says`); `callers` tells how many callers there are. O(n) for n commands. They refuse only for want of memory.
+//! `records` makes batches and reads in rounds of the commands of a tool; `callers` tells how many callers there are. O(n) for n
+//! commands. They refuse only for want of memory.
 //!
-//! Tests: `serve_program_tests`. Wrong bodies: none here; `serve_tool` and `gserve_tool` state these clauses of whole runs.
+//! Tests: `serve_program_tests`. Wrong bodies: none here; `serve_tool` states these clauses of whole runs.
 #![tactic(auto)]
 
 mod converting;
-mod map_ops;
 
-pub use converting::{Says, callers, records};
+pub use converting::{callers, records};

@@ -1,9 +1,8 @@
 //! Verdicts on texts of the tool gserve.
 use crate::worked::LAWFUL_GRAPHS;
+use check_tool::{Verdict, check_gserve};
 use fork_join::{Cut, FreeGate, On};
-use gserve_check::{Verdict, check};
-use gserve_script::{EdgeOp, EdgeQuery};
-use serve_script::served_commands;
+use serve_script::{EdgeQuery, GraphOp, served_commands};
 use std::alloc::Global;
 use std::marker::Sync;
 use std::test::Fail;
@@ -30,13 +29,13 @@ fn verdict_on<R: Threads + Sync>(
     input: &[u8],
     text: &[u8],
 ) -> Result<Verdict, Fail> {
-    let commands = served_commands::<EdgeOp, EdgeQuery>(alloc, input)?;
+    let commands = served_commands::<GraphOp, EdgeQuery>(alloc, input)?;
     let on = On {
         rt,
         gate: &FreeGate,
         cut: Cut::new(2, 1),
     };
-    Ok(check(on, alloc, commands.items(), text)?)
+    Ok(check_gserve(on, alloc, commands.items(), text)?)
 }
 
 /// Whether each of some texts is lawful for an input.

@@ -1,4 +1,4 @@
 pub mod FirstRound
 pub mod HaveRuns
-pub mod Played
+pub mod OneRound
 pub mod UnderWay

@@ -24,7 +24,7 @@ use Rattle.serve_text.proofs.Orders.{filter_yes, filter_no, none_of_key, front_a
 use Rattle.serve_text.proofs.Growing.{batches_of-nil, batches_of-append, batches_of_caller, batches_below, one_round_more, few, no_round_yet, replies_more}
 use Rattle.serve_callers.proofs.Turns.{same_stores}
 use Rattle.serve_rounds.specs.Rounds.{IsBetweenRounds, PlaysRound, HasServed}
-use Rattle.serve_rounds.proofs.Played.{all_same}
+use Rattle.serve_rounds.proofs.OneRound.{all_same}
 
 module _ {O : Type 0} where
   own_again : (c : ℕ) (e : Entry O) → e.caller ≡ c → entry_of c (submitted_in e) ≡ e

@@ -9,12 +9,12 @@
 
 mod finishing;
 mod parts;
+mod played;
 mod ran;
 mod round;
 mod rounds;
 mod running;
-mod served;
 
 pub use finishing::finish;
+pub use played::Played;
 pub use rounds::run_rounds;
-pub use served::Served;

@@ -1,17 +1,16 @@
 //! What a caller leaves of a round.
-use batch_store::Caller;
+use batch_store::{Caller, State};
 use serve_callers::Lines;
-use serve_text::Answers;
 use std::marker::Model;
 
 /// A caller after its records of a round, and the lines of its reads in order.
 #[derive(Drop)]
-pub(crate) struct Ran<S: Answers> {
+pub(crate) struct Ran<S: State> {
     pub(crate) caller: Caller<S>,
     pub(crate) lines: Lines,
 }
 
-impl<S: Answers> Model for Ran<S> {
+impl<S: State> Model for Ran<S> {
     ghost use Rattle.std.specs.Prelude.{List, ℕ};
     ghost use Rattle.batch_store.specs.Calling.{Calling};
 

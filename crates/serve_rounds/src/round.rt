@@ -3,7 +3,7 @@ ghost use Rattle.std.specs.Prelude.{◌<◌, IfOk, All, length};
 ghost use Rattle.serve_rounds.specs.Rounds.{IsBetweenRounds, PlaysRound};
 
 use crate::parts::{parted, run_parts};
-use crate::served::Served;
+use crate::played::Played;
 use aug_monoid::NoMemory;
 use fork_join::{Gate, On};
 use serve_callers::weave;
@@ -12,24 +12,25 @@ use std::alloc::Global;
 use std::marker::Sync;
 use std::sync::Wait;
 use std::thread::Threads;
+use versions::SyncState;
 
 /// One round: its callers run beside the combiner, then the round ends, and the lines of its reads are written in record order.
-pub(crate) fn play_round<S: Answers, R: Threads + Wait + Sync, G: Gate>(
+pub(crate) fn play_round<A: Answers<S>, S: SyncState, R: Threads + Wait + Sync, G: Gate>(
     on: On<R, G>,
     alloc: Global,
-    served: Served<S>,
-    records: &[Record<S::Op, S::Query>],
-) -> Result<Served<S>, NoMemory>
-    requires between { IsBetweenRounds served.store served.callers.items }
-    requires callers { All (λ r. r.caller < length served.callers.items) records.now }
-    ensures { IfOk result (λ later. PlaysRound S.step S.answer_of records.now served.store later.store served.callers.items later.callers.items served.text.items later.text.items) }
+    played: Played<S>,
+    records: &[Record<S::Op, A::Query>],
+) -> Result<Played<S>, NoMemory>
+    requires between { IsBetweenRounds played.store played.callers.items }
+    requires callers { All (λ r. r.caller < length played.callers.items) records.now }
+    ensures { IfOk result (λ later. PlaysRound S.step A.answer_of records.now played.store later.store played.callers.items later.callers.items played.text.items later.text.items) }
 {
-    let Served {
+    let Played {
         store,
         callers,
         text,
-    } = served;
-    let (store, ran) = run_parts(on, alloc, store, callers, records)?;
+    } = played;
+    let (store, ran) = run_parts::<A, S, R, G>(on, alloc, store, callers, records)?;
     let (callers, lines) = parted(alloc, ran)?;
     let mut store = store;
     let mut callers = callers;
@@ -37,7 +38,7 @@ pub(crate) fn play_round<S: Answers, R: Threads + Wait + Sync, G: Gate>(
     let mut lines = lines;
     let mut text = text;
     weave(records, &mut lines, &mut text)?;
-    Ok(Served {
+    Ok(Played {
         store,
         callers,
         text,

@@ -5,8 +5,8 @@ ghost use Rattle.batch_store.specs.Round.{IsNewStore};
 ghost use Rattle.serve_text.specs.Histories.{AreInRounds};
 ghost use Rattle.serve_rounds.specs.Rounds.{HasServed};
 
+use crate::played::Played;
 use crate::round::play_round;
-use crate::served::Served;
 use aug_monoid::NoMemory;
 use batch_store::{Caller, Store};
 use fork_join::{Gate, On};
@@ -15,6 +15,7 @@ use std::alloc::Global;
 use std::marker::Sync;
 use std::sync::Wait;
 use std::thread::Threads;
+use versions::SyncState;
 
 /// How many of the records are of the first one's round.
 fn round_length<O: Drop, Q: Drop>(first: u64, records: &[Record<O, Q>]) -> usize
@@ -34,18 +35,18 @@ fn round_length<O: Drop, Q: Drop>(first: u64, records: &[Record<O, Q>]) -> usize
 ///
 /// It enters the gate at 200 before each turn, at 201 after a turn that published, and at 256 + c before each read of caller c; what a
 /// state forks enters it nowhere. It may wait. On a refusal store and callers are dropped.
-pub fn run_rounds<S: Answers, R: Threads + Wait + Sync, G: Gate>(
+pub fn run_rounds<A: Answers<S>, S: SyncState, R: Threads + Wait + Sync, G: Gate>(
     on: On<R, G>,
     alloc: Global,
     store: Store<S>,
     callers: Vec<Caller<S>>,
-    records: &[Record<S::Op, S::Query>],
-) -> Result<Served<S>, NoMemory>
+    records: &[Record<S::Op, A::Query>],
+) -> Result<Played<S>, NoMemory>
     requires new { IsNewStore store.base (length callers.items) store callers.items }
     requires rounds { AreInRounds (length callers.items) records.now }
-    ensures { IfOk result (λ served. HasServed S.step S.answer_of records.now store served.store callers.items served.callers.items served.text.items) }
+    ensures { IfOk result (λ played. HasServed S.step A.answer_of records.now store played.store callers.items played.callers.items played.text.items) }
 {
-    let mut served = Served {
+    let mut played = Played {
         store,
         callers,
         text: Vec::new(alloc),
@@ -53,8 +54,8 @@ pub fn run_rounds<S: Answers, R: Threads + Wait + Sync, G: Gate>(
     let mut left = records;
     while let Some(record) = left.first() {
         let (round, later) = left.split_at(round_length(record.round, left));
-        served = play_round(on, alloc, served, round)?;
+        played = play_round::<A, S, R, G>(on, alloc, played, round)?;
         left = later;
     }
-    Ok(served)
+    Ok(played)
 }

@@ -10,7 +10,7 @@ ghost use Rattle.serve_rounds.specs.Rounds.{Follows, HaveRun};
 
 use crate::ran::Ran;
 use aug_monoid::NoMemory;
-use batch_store::{Caller, Store};
+use batch_store::{Caller, State, Store};
 use fork_join::{Gate, On};
 use serve_callers::{Lines, combine, run_caller};
 use serve_text::{Answers, Record};
@@ -20,17 +20,18 @@ use std::marker::Sync;
 use std::sync::Wait;
 use std::thread;
 use std::thread::Threads;
+use versions::SyncState;
 
 /// A round: where it runs, its records, which callers have some, and how many turns the combiner makes.
 #[derive(Drop)]
-pub(crate) struct Round<'a, S: Answers, R, G> {
+pub(crate) struct Round<'a, A: Answers<S>, S: SyncState, R, G> {
     pub(crate) on: On<'a, R, G>,
-    pub(crate) records: &'a [Record<S::Op, S::Query>],
+    pub(crate) records: &'a [Record<S::Op, A::Query>],
     pub(crate) busy: &'a [bool],
     pub(crate) turns: u64,
 }
 
-impl<'a, S: Answers, R: Wait, G: Gate> Round<'a, S, R, G> {
+impl<'a, A: Answers<S>, S: SyncState, R: Wait, G: Gate> Round<'a, A, S, R, G> {
     fn is_busy(&self, caller: &Caller<S>) -> bool {
         match self.busy.get(caller.number() as usize) {
             Some(busy) => *busy,
@@ -72,11 +73,11 @@ impl<'a, S: Answers, R: Wait, G: Gate> Round<'a, S, R, G> {
 
     /// A caller's own records.
     fn run_one(&self, alloc: Global, caller: Caller<S>) -> Result<Ran<S>, NoMemory>
-        ensures { IfOk result (λ ran. HasRun S.step S.answer_of (records_of caller.number self.now.records.now) caller ran.0 ran.1) }
+        ensures { IfOk result (λ ran. HasRun S.step A.answer_of (records_of caller.number self.now.records.now) caller ran.0 ran.1) }
     {
         let mut caller = caller;
         let mut lines = Lines::new(alloc);
-        run_caller(
+        run_caller::<A, S, R, G>(
             self.on.rt,
             alloc,
             self.on.gate,
@@ -89,7 +90,7 @@ impl<'a, S: Answers, R: Wait, G: Gate> Round<'a, S, R, G> {
 
     /// The callers one after another.
     fn run_in_turn(&self, alloc: Global, callers: Vec<Caller<S>>) -> Result<Vec<Ran<S>>, NoMemory>
-        ensures { IfOk result (λ ran. HaveRun S.step S.answer_of self.now.records.now callers.items ran.items) }
+        ensures { IfOk result (λ ran. HaveRun S.step A.answer_of self.now.records.now callers.items ran.items) }
     {
         let mut ran = Vec::with_capacity(alloc, callers.len())?;
         for caller in callers {
@@ -99,7 +100,7 @@ impl<'a, S: Answers, R: Wait, G: Gate> Round<'a, S, R, G> {
     }
 }
 
-impl<'a, S: Answers, R: Threads + Wait + Sync, G: Gate> Round<'a, S, R, G> {
+impl<'a, A: Answers<S>, S: SyncState, R: Threads + Wait + Sync, G: Gate> Round<'a, A, S, R, G> {
     /// The combiner's turns.
     pub(crate) fn make_turns(&self, alloc: Global, store: Store<S>) -> Result<Store<S>, NoMemory>
         ensures { IfOk result (λ later. SameStore store later × IsPrefix store.journal later.journal) }
@@ -125,7 +126,7 @@ impl<'a, S: Answers, R: Threads + Wait + Sync, G: Gate> Round<'a, S, R, G> {
 }
 
 /// What two halves leave, in order.
-fn joined<S: Answers>(front: Vec<Ran<S>>, back: Vec<Ran<S>>) -> Result<Vec<Ran<S>>, NoMemory>
+fn joined<S: State>(front: Vec<Ran<S>>, back: Vec<Ran<S>>) -> Result<Vec<Ran<S>>, NoMemory>
     ensures { IfOk result (λ all. all.items ≡ front.items ++ back.items) }
 {
     let mut all = front;
@@ -137,12 +138,12 @@ fn joined<S: Answers>(front: Vec<Ran<S>>, back: Vec<Ran<S>>) -> Result<Vec<Ran<S
 /// The callers, by halves of those that have records, until each of these has a thread of its own. Where none can be made, one half
 /// waits for the other.
 #[cycle(run_callers)]
-pub(crate) fn run_callers<S: Answers, R: Threads + Wait + Sync, G: Gate>(
-    round: &Round<'_, S, R, G>,
+pub(crate) fn run_callers<A: Answers<S>, S: SyncState, R: Threads + Wait + Sync, G: Gate>(
+    round: &Round<'_, A, S, R, G>,
     alloc: Global,
     callers: VecDeque<Caller<S>>,
 ) -> Result<Vec<Ran<S>>, NoMemory>
-    ensures { IfOk result (λ ran. HaveRun S.step S.answer_of round.now.records.now callers.items ran.items) }
+    ensures { IfOk result (λ ran. HaveRun S.step A.answer_of round.now.records.now callers.items ran.items) }
 {
     let mut front = callers;
     let busy = round.count(&front);
@@ -154,11 +155,11 @@ pub(crate) fn run_callers<S: Answers, R: Threads + Wait + Sync, G: Gate>(
         round.on.rt,
         move || -> Result<Vec<Ran<S>>, NoMemory>
             requires { IsSync R.row × IsSync G.row }
-            ensures { IfOk result (λ ran. HaveRun S.step S.answer_of round.entry.now.records.now front.items ran.items) }
+            ensures { IfOk result (λ ran. HaveRun S.step A.answer_of round.entry.now.records.now front.items ran.items) }
         { run_callers(round, alloc, front) },
         move || -> Result<Vec<Ran<S>>, NoMemory>
             requires { IsSync R.row × IsSync G.row }
-            ensures { IfOk result (λ ran. HaveRun S.step S.answer_of round.entry.now.records.now back.items ran.items) }
+            ensures { IfOk result (λ ran. HaveRun S.step A.answer_of round.entry.now.records.now back.items ran.items) }
         { run_callers(round, alloc, back) },
     );
     joined(front?, back?)

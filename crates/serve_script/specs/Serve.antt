@@ -7,13 +7,13 @@ use Rattle.script.specs.Rows.{makes₀, makes₁, makes₂}
 use Rattle.script.specs.declared.fault.Code.{Code}
 use Rattle.script.specs.declared.fault.Code.TheVariants as code
 use Rattle.serve_script.specs.Words.{next_number, next_numbers, no_query_number, query_number, query_numbers}
-use Rattle.serve_script.specs.declared.map_words.ServeOp.{ServeOp}
-use Rattle.serve_script.specs.declared.map_words.ServeOp.TheVariants as op
+use Rattle.op_runs.specs.declared.op.Op.{Op}
+use Rattle.op_runs.specs.declared.op.Op.TheVariants as op
 use Rattle.serve_script.specs.declared.map_words.ServeQuery.{ServeQuery}
 use Rattle.serve_script.specs.declared.map_words.ServeQuery.TheVariants as query
 
 -- the operation of a word and the fields behind it
-unfoldable pub operation_of : List ℕ → Fields → Result ServeOp Code
+unfoldable pub operation_of : List ℕ → Fields → Result Op Code
 operation_of word fields =
     if bytes_eq word (codes "put") then makes₂ op.Put (next_numbers fields)
     else if bytes_eq word (codes "del") then makes₁ op.Del (next_number fields)
@@ -22,7 +22,7 @@ operation_of word fields =
     else Err code.Op
 
 -- how many numbers an operation has
-abbrev pub numbers_in : ServeOp → ℕ
+abbrev pub numbers_in : Op → ℕ
 numbers_in (op.Put key val) = 2
 numbers_in (op.Del key) = 1
 numbers_in (op.Add key val) = 2

@@ -8,13 +8,13 @@ use Rattle.script.proofs.RowFacts.{made₁, made₂}
 use Rattle.serve_script.specs.WordLaws.{enough}
 use Rattle.serve_script.specs.Serve.{numbers_in, operation_of}
 use Rattle.serve_script.specs.Words.{next_number, next_numbers}
-use Rattle.serve_script.specs.declared.map_words.ServeOp.{ServeOp}
+use Rattle.op_runs.specs.declared.op.Op.{Op}
 
 pub operation_fits : (word : List ℕ) (fields : Fields) → IfOk (operation_of word fields) (λ operation. numbers_in operation ≤ length fields)
 unfolding operation_of
 operation_fits word fields =
-    let Fits : ServeOp → Type 0 = λ operation. numbers_in operation ≤ length fields in
-    let P : Result ServeOp Code → Type 0 = λ read. IfOk read Fits in
+    let Fits : Op → Type 0 = λ operation. numbers_in operation ≤ length fields in
+    let P : Result Op Code → Type 0 = λ read. IfOk read Fits in
     let two : IfOk (next_numbers fields) (λ f. 2 ≤ length fields) = enough 2 fields _ in
     let one : IfOk (next_number fields) (λ f. 1 ≤ length fields) = enough 1 fields _ in
     either_way P (bytes_eq word (codes "put")) _ _ (made₂ Fits (λ f. 2 ≤ length fields) _ _ two (λ f h. h))

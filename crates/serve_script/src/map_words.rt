@@ -9,22 +9,9 @@ use crate::words::{
     Operation, Query, next_number, next_numbers, no_query_number, query_number, query_numbers,
 };
 use csv::ByteRecord;
+use op_runs::Op;
 use script::Code;
 use script::fields::field_at;
-
-/// A change of the served map.
-#[derive(Clone, Copy, Debug, PartialEq, Eq)]
-pub enum ServeOp {
-    /// Sets the value of `key`.
-    Put { key: u64, val: u64 },
-    /// Removes `key`.
-    Del { key: u64 },
-    /// Adds to the value of `key`, at most to the greatest number. A key without a value gets this
-    /// one.
-    Add { key: u64, val: u64 },
-    /// Removes the keys from `lo` to `hi`.
-    Wipe { lo: u64, hi: u64 },
-}
 
 /// A question about the served map.
 #[derive(Clone, Copy, Debug, PartialEq, Eq)]
@@ -39,7 +26,7 @@ pub enum ServeQuery {
     Size,
 }
 
-impl Operation for ServeOp {
+impl Operation for Op {
     ghost operation_of = { operation_of };
 
     ghost numbers_in = { numbers_in };
@@ -47,21 +34,21 @@ impl Operation for ServeOp {
     ghost fits = { operation_fits };
 
     #[tactic(auto, unfolding(crate::specs::Serve::operation_of))]
-    fn operation_at(row: &ByteRecord, place: usize) -> Result<ServeOp, Code> {
+    fn operation_at(row: &ByteRecord, place: usize) -> Result<Op, Code> {
         let _size = row.len(); // for the proof alone: places of fields fit their type
         let word = field_at(row, place);
         if word == b"put".as_slice() {
             let (key, val) = next_numbers(row, place + 1)?;
-            Ok(ServeOp::Put { key, val })
+            Ok(Op::Put { key, val })
         } else if word == b"del".as_slice() {
             let key = next_number(row, place + 1)?;
-            Ok(ServeOp::Del { key })
+            Ok(Op::Del { key })
         } else if word == b"add".as_slice() {
             let (key, val) = next_numbers(row, place + 1)?;
-            Ok(ServeOp::Add { key, val })
+            Ok(Op::Add { key, val })
         } else if word == b"wipe".as_slice() {
             let (lo, hi) = next_numbers(row, place + 1)?;
-            Ok(ServeOp::Wipe { lo, hi })
+            Ok(Op::Wipe { lo, hi })
         } else {
             Err(Code::Op)
         }
@@ -69,8 +56,8 @@ impl Operation for ServeOp {
 
     fn numbers(&self) -> usize {
         match self {
-            ServeOp::Put { .. } | ServeOp::Add { .. } | ServeOp::Wipe { .. } => 2,
-            ServeOp::Del { .. } => 1,
+            Op::Put { .. } | Op::Add { .. } | Op::Wipe { .. } => 2,
+            Op::Del { .. } => 1,
         }
     }
 }

@@ -2,10 +2,10 @@
 
 use aug_monoid::NoMemory;
 use fork_join::{Cut, FreeGate};
-use serve_answers::ServedMap;
+use serve_answers::MapAnswers;
 use serve_script::ServeQuery;
 use serve_text::Answers;
-use served_map::Op;
+use served_map::{Op, Served};
 use std::alloc::Global;
 use std::marker::Sync;
 use std::test::Fail;
@@ -13,21 +13,21 @@ use std::thread::Threads;
 use versions::{Batch, State};
 
 /// The map after these operations on none.
-fn after<R: Threads + Sync>(rt: &R, alloc: Global, ops: &[Op]) -> Result<ServedMap, NoMemory> {
+fn after<R: Threads + Sync>(rt: &R, alloc: Global, ops: &[Op]) -> Result<Served, NoMemory> {
     let mut batches = Vec::new(alloc);
     batches.push(Batch::new(alloc, Vec::from_slice(alloc, ops)?)?)?;
-    ServedMap::new().apply(rt, alloc, &FreeGate, Cut::new(1, 1024), batches.as_slice())
+    Served::new().apply(rt, alloc, &FreeGate, Cut::new(1, 1024), batches.as_slice())
 }
 
 /// The answers to the queries, each behind a line feed, and the last line.
-fn answers(alloc: Global, map: &ServedMap, queries: &[ServeQuery]) -> Result<Vec<u8>, NoMemory> {
+fn answers(alloc: Global, map: &Served, queries: &[ServeQuery]) -> Result<Vec<u8>, NoMemory> {
     let mut text = Vec::new(alloc);
     for query in queries {
         text.push(b'\n')?;
-        map.answer(alloc, query, &mut text)?;
+        MapAnswers::answer(alloc, map, query, &mut text)?;
     }
     text.push(b'\n')?;
-    map.write_last(alloc, &mut text)?;
+    MapAnswers::write_last(alloc, map, &mut text)?;
     Ok(text)
 }
 
@@ -62,7 +62,7 @@ fn answers_of_three_entries(rt: HostRuntime) -> Result<(), Fail> {
 #[test]
 fn answers_of_no_entries(rt: HostRuntime) -> Result<(), Fail> {
     assert_eq!(rt;
-        answers(rt.alloc(), &ServedMap::new(), QUERIES)?.as_slice(),
+        answers(rt.alloc(), &Served::new(), QUERIES)?.as_slice(),
         b"\nnone\nnone\naug,0,0\naug,0,0\nrank,0\nsize,0\nfinal,0,0,0\n".as_slice()
     );
     Ok(())

@@ -1,18 +1,19 @@
 //! The lines of a version that nothing has changed.
 use aug_monoid::NoMemory;
-use serve_answers::ServedMap;
+use serve_answers::MapAnswers;
 use serve_script::ServeQuery;
 use serve_text::{reply_line, write_rest};
+use served_map::Served;
 use std::alloc::Global;
 use std::test::Fail;
 use versions::Version;
 
 /// The line of a read of the size by record 4, and the rest of the text.
 fn lines(alloc: Global) -> Result<[Vec<u8>; 2], NoMemory> {
-    let version = Version::first(ServedMap::new());
-    let line = reply_line(alloc, 4, &version, &ServeQuery::Size)?;
+    let version = Version::first(Served::new());
+    let line = reply_line::<MapAnswers, Served>(alloc, 4, &version, &ServeQuery::Size)?;
     let mut rest = Vec::new(alloc);
-    write_rest(alloc, &version, &mut rest)?;
+    write_rest::<MapAnswers, Served>(alloc, &version, &mut rest)?;
     Ok([line, rest])
 }
 

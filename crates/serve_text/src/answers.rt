@@ -1,4 +1,4 @@
-//! States that answer queries by text.
+//! How served states answer queries by text.
 ghost use Rattle.std.specs.Prelude.{◌≡◌, ◌++◌, ℕ, List, MatchResult};
 ghost use Rattle.serve_text.specs.Determined.{HasNoLineFeed, IsLastLine};
 ghost use Rattle.serve_text.specs.Texts.{Extends};
@@ -6,28 +6,33 @@ ghost use Rattle.serve_text.specs.Texts.{Extends};
 use aug_monoid::NoMemory;
 use std::alloc::Global;
 use std::marker::{Send, Sync};
-use versions::SyncState;
+use versions::State;
 
-/// A state that answers queries, each by one line of text.
-pub trait Answers: SyncState {
+/// How a state answers queries, each by one line of text.
+pub trait Answers<S: State>: Drop + Send + Sync {
     /// What can be asked.
-    type Query: Drop + Send + Sync;
+    type Query: Copy + Send + Sync;
 
     /// The answer, without a line feed.
-    ghost answer_of: { Self → Self.Query → List ℕ };
+    ghost answer_of: { S → Self.Query → List ℕ };
 
     /// The last line of a text that ends in this state, with its line feed.
-    ghost last_of: { Self → List ℕ };
+    ghost last_of: { S → List ℕ };
 
     /// Appends the answer, or the first part of it.
-    fn answer(&self, alloc: Global, query: &Self::Query, out: &mut Vec<u8>) -> Result<(), NoMemory>
-        ensures { MatchResult result (λ _. out.new.items ≡ out.old.items ++ answer_of self.now query.now) (λ _. Extends out.old.items out.new.items) };
+    fn answer(
+        alloc: Global,
+        state: &S,
+        query: &Self::Query,
+        out: &mut Vec<u8>,
+    ) -> Result<(), NoMemory>
+        ensures { MatchResult result (λ _. out.new.items ≡ out.old.items ++ answer_of state.now query.now) (λ _. Extends out.old.items out.new.items) };
 
     /// Appends the last line, or the first part of it.
-    fn write_last(&self, alloc: Global, out: &mut Vec<u8>) -> Result<(), NoMemory>
-        ensures { MatchResult result (λ _. out.new.items ≡ out.old.items ++ last_of self.now) (λ _. Extends out.old.items out.new.items) };
+    fn write_last(alloc: Global, state: &S, out: &mut Vec<u8>) -> Result<(), NoMemory>
+        ensures { MatchResult result (λ _. out.new.items ≡ out.old.items ++ last_of state.now) (λ _. Extends out.old.items out.new.items) };
 
-    ghost in_line: { (state : Self) (query : Self.Query) → HasNoLineFeed (answer_of state query) };
+    ghost in_line: { (state : S) (query : Self.Query) → HasNoLineFeed (answer_of state query) };
 
-    ghost last_line: { (state : Self) → IsLastLine (last_of state) };
+    ghost last_line: { (state : S) → IsLastLine (last_of state) };
 }

@@ -8,7 +8,7 @@ use aug_monoid::{NoMemory, Share};
 use itoa::Buffer;
 use shared_log::SharedLog;
 use std::alloc::Global;
-use versions::{Entry, Version};
+use versions::{Entry, State, Version};
 
 fn push_number(out: &mut Vec<u8>, number: u64) -> Result<(), NoMemory>
     ensures { MatchResult result (λ _. out.new.items ≡ out.old.items ++ decimal number) (λ _. out.new.items ≡ out.old.items) }
@@ -45,17 +45,17 @@ fn push_order_line(out: &mut Vec<u8>, place: u64, tag: u64) -> Result<(), NoMemo
 }
 
 /// The line of a read: its record's number, the version's number, and what the version's state answers.
-pub fn reply_line<S: Answers>(
+pub fn reply_line<A: Answers<S>, S: State>(
     alloc: Global,
     place: u64,
     version: &Version<S>,
-    query: &S::Query,
+    query: &A::Query,
 ) -> Result<Vec<u8>, NoMemory>
-    ensures { IfOk result (λ text. text.items ≡ reply_head place (length version.now.journal) ++ (S.answer_of (state_of S.step version.now) query.now ++ line_feed ∷ [])) }
+    ensures { IfOk result (λ text. text.items ≡ reply_head place (length version.now.journal) ++ (A.answer_of (state_of S.step version.now) query.now ++ line_feed ∷ [])) }
 {
     let mut text = Vec::new(alloc);
     push_head(&mut text, place, version.number())?;
-    version.state().answer(alloc, query, &mut text)?;
+    A::answer(alloc, version.state(), query, &mut text)?;
     text.push(b'\n')?;
     Ok(text)
 }
@@ -74,13 +74,13 @@ fn write_order<O: Share>(out: &mut Vec<u8>, journal: &SharedLog<Entry<O>>) -> Re
 }
 
 /// Appends what comes after the reads' lines, or the first part of it: the order of the version's batches, and the last line of its state.
-pub fn write_rest<S: Answers>(
+pub fn write_rest<A: Answers<S>, S: State>(
     alloc: Global,
     version: &Version<S>,
     out: &mut Vec<u8>,
 ) -> Result<(), NoMemory>
-    ensures { MatchResult result (λ _. out.new.items ≡ out.old.items ++ rest_text S.step S.last_of version.now.base version.now.journal) (λ _. Extends out.old.items out.new.items) }
+    ensures { MatchResult result (λ _. out.new.items ≡ out.old.items ++ rest_text S.step A.last_of version.now.base version.now.journal) (λ _. Extends out.old.items out.new.items) }
 {
     write_order(out, version.journal())?;
-    version.state().write_last(alloc, out)
+    A::write_last(alloc, version.state(), out)
 }

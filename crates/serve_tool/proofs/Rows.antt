@@ -3,18 +3,15 @@ use Rattle.std.proofs.Common.{◌≡◌, ◌≤◌, ◌<◌, ◌==◌, ◌++◌,
 use Rattle.std.specs.List.Sorted.{IsNonDecreasingBy, IsPermutation}
 use Rattle.std.proofs.lemmas.Bool.Decides.{nat_tests}
 use Rattle.std.proofs.lemmas.List.Sorted.{IsNonDecreasingBy-short}
-use Rattle.op_runs.specs.declared.op.Op.{Op}
-use Rattle.op_runs.specs.declared.op.Op.TheVariants as operation
 use Rattle.script.specs.Lines.{line_of, reply_of}
 use Rattle.serve_script.specs.declared.commands.ServedCommand.{ServedCommand}
 use Rattle.serve_script.specs.declared.commands.ServedCommand.TheVariants as command
-use Rattle.serve_script.specs.declared.map_words.ServeOp.{ServeOp}
-use Rattle.serve_script.specs.declared.map_words.ServeOp.TheVariants as op
+use Rattle.op_runs.specs.declared.op.Op.{Op}
+use Rattle.op_runs.specs.declared.op.Op.TheVariants as op
 use Rattle.serve_script.specs.declared.map_words.ServeQuery.{ServeQuery}
 use Rattle.serve_script.specs.declared.map_words.ServeQuery.TheVariants as query
-use Rattle.serve_answers.specs.Answering.{range_totals, totals_of}
+use Rattle.serve_answers.specs.MapAnswering.{range_totals, totals_of}
 use Rattle.serve_input.specs.Converting.{records_from, records_of}
-use Rattle.serve_input.specs.MapOps.{op_of}
 use Rattle.serve_text.specs.Histories.{IsLawfulHistory, IsOfItsRound}
 use Rattle.serve_text.specs.Records.{Answered, answered_of, batches_of, before, entries_of, reads_of}
 use Rattle.serve_text.specs.Texts.{order_line, reply_head, reply_line}
@@ -39,7 +36,7 @@ earlier : (a b : ℕ) → a < b → nat_lt a b ≡ true
 earlier a b h = grind (arith, nat_tests)
 
 -- two callers with a batch each in one round, and a read each in the next
-abbrev two_callers : List (ServedCommand ServeOp ServeQuery)
+abbrev two_callers : List (ServedCommand Op ServeQuery)
 two_callers =
     command.Serve 1 2 ∷
     command.Batch 2 0 (op.Put 1 10 ∷ []) ∷
@@ -50,10 +47,10 @@ two_callers =
     []
 
 abbrev first : Entry Op
-first = record { caller = 0; tag = 2; batch = operation.Put 1 10 ∷ [] }
+first = record { caller = 0; tag = 2; batch = op.Put 1 10 ∷ [] }
 
 abbrev second : Entry Op
-second = record { caller = 1; tag = 3; batch = operation.Put 2 20 ∷ [] }
+second = record { caller = 1; tag = 3; batch = op.Put 2 20 ∷ [] }
 
 -- both reads see both batches
 abbrev both_seen : List (Answered ServeQuery)
@@ -70,7 +67,7 @@ each_caller (suc (suc c)) = rw (another 0 (suc (suc c)) (omega arith), another 1
 both : IsPermutation (first ∷ second ∷ []) (second ∷ first ∷ [])
 both = same_of_each (λ (e : Entry Op). e.caller) _ _ (λ c. sym (each_caller c))
 
-each_round : (k : ℕ) → IsPermutation (batches_of (before k (records_of op_of two_callers))) (take (length (batches_of (before k (records_of op_of two_callers)))) (second ∷ first ∷ []))
+each_round : (k : ℕ) → IsPermutation (batches_of (before k (records_of two_callers))) (take (length (batches_of (before k (records_of two_callers)))) (second ∷ first ∷ []))
 unfolding records_from batches_of
 each_round zero = same_of_each (λ (e : Entry Op). e.caller) _ _ (λ c. refl)
 each_round (suc zero) = both
@@ -81,7 +78,7 @@ each_rises zero = IsNonDecreasingBy-short number_of (answered_of 0 both_seen) (l
 each_rises (suc zero) = IsNonDecreasingBy-short number_of (answered_of 1 both_seen) (lit≤ (tt {0}))
 each_rises (suc (suc c)) = rw (another 0 (suc (suc c)) (omega arith), another 1 (suc (suc c)) (omega arith)) (IsNonDecreasingBy-short number_of [] (lit≤ (tt {0})))
 
-all_seen : All (IsOfItsRound (records_of op_of two_callers)) both_seen
+all_seen : All (IsOfItsRound (records_of two_callers)) both_seen
 unfolding records_from batches_of
 all_seen zero d lt = record { least = lit≤ (tt {0}); most = lit≤ (tt {0}) }
 all_seen (suc zero) d lt = record { least = lit≤ (tt {0}); most = lit≤ (tt {0}) }
@@ -100,7 +97,7 @@ exchanged = record {
 }
 
 -- one caller that reads behind its batch, in the same round
-abbrev one_caller : List (ServedCommand ServeOp ServeQuery)
+abbrev one_caller : List (ServedCommand Op ServeQuery)
 one_caller =
     command.Serve 1 1 ∷
     command.Batch 2 0 (op.Put 1 10 ∷ op.Add 1 5 ∷ op.Add 2 7 ∷ op.Wipe 2 9 ∷ op.Del 3 ∷ []) ∷
@@ -108,12 +105,12 @@ one_caller =
     []
 
 abbrev only : Entry Op
-only = record { caller = 0; tag = 2; batch = operation.Put 1 10 ∷ operation.Add 1 5 ∷ operation.Add 2 7 ∷ operation.Wipe 2 9 ∷ operation.Del 3 ∷ [] }
+only = record { caller = 0; tag = 2; batch = op.Put 1 10 ∷ op.Add 1 5 ∷ op.Add 2 7 ∷ op.Wipe 2 9 ∷ op.Del 3 ∷ [] }
 
 abbrev one_read : ℕ → List (Answered ServeQuery)
 one_read n = record { asked = record { place = 3; caller = 0; round = 0; query = query.Get 1 }; number = n } ∷ []
 
-only_round : (k : ℕ) → IsPermutation (batches_of (before k (records_of op_of one_caller))) (take (length (batches_of (before k (records_of op_of one_caller)))) (only ∷ []))
+only_round : (k : ℕ) → IsPermutation (batches_of (before k (records_of one_caller))) (take (length (batches_of (before k (records_of one_caller)))) (only ∷ []))
 unfolding records_from batches_of
 only_round zero = same_of_each (λ (e : Entry Op). e.caller) _ _ (λ c. refl)
 only_round (suc k) = rw (earlier 0 (suc k) (omega arith)) (same_of_each (λ (e : Entry Op). e.caller) (only ∷ []) (only ∷ []) (λ c. refl))
@@ -122,12 +119,12 @@ only_rises : (n c : ℕ) → IsNonDecreasingBy number_of (answered_of c (one_rea
 only_rises n zero = IsNonDecreasingBy-short number_of (one_read n) (lit≤ (tt {0}))
 only_rises n (suc c) = rw (another 0 (suc c) (omega arith)) (IsNonDecreasingBy-short number_of [] (lit≤ (tt {0})))
 
-own_round : (n : ℕ) → n ≤ 1 → All (IsOfItsRound (records_of op_of one_caller)) (one_read n)
+own_round : (n : ℕ) → n ≤ 1 → All (IsOfItsRound (records_of one_caller)) (one_read n)
 unfolding records_from batches_of
 own_round n few zero d lt = record { least = omega arith; most = few }
 own_round n few (suc k) d lt = omega (arith, lt)
 
-seen_or_not : (n : ℕ) → n ≤ 1 → IsLawfulHistory (records_of op_of one_caller) (one_read n) (only ∷ [])
+seen_or_not : (n : ℕ) → n ≤ 1 → IsLawfulHistory (records_of one_caller) (one_read n) (only ∷ [])
 unfolding records_from reads_of batches_of
 seen_or_not n few = record {
   asked = refl;

@@ -1,1 +1,2 @@
+pub mod GraphOutput
 pub mod Output

@@ -9,7 +9,7 @@ use Rattle.points_tool.specs.PointsRecords.{points_command}
 use Rattle.script.specs.Records.{records_of}
 use Rattle.script.specs.InOrder.{commands_from}
 use Rattle.script.specs.Results.{◌>>=◌}
-use Rattle.gserve_script.specs.Gserve as gserve
+use Rattle.serve_script.specs.Gserve as gserve
 use Rattle.serve_script.specs.Serve as serve
 use Rattle.serve_script.specs.Served.{served_commands_of}
 use Rattle.seq_tool.specs.SeqRecords.{seq_command}

@@ -7,14 +7,13 @@ ghost use Rattle.script.specs.Results.{Gives};
 
 use check_input::{CheckInput, check_input};
 use graph_tool::GraphCommand;
-use gserve_script::GserveCommand;
 use index_tool::IndexCommand;
 use interval_tool::IntervalCommand;
 use map_records::MapCommand;
 use points_tool::PointsCommand;
 use script::{Items, ScriptFault, read_all};
 use seq_tool::SeqCommand;
-use serve_script::{ServeCommand, served_commands};
+use serve_script::{GserveCommand, ServeCommand, served_commands};
 use std::alloc::Global;
 
 /// A tool of the program.

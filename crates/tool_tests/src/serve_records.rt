@@ -1,13 +1,13 @@
 //! Inputs of the tool serve that are read as commands.
 use script::{BadRecord, Code, ScriptFault, error_line};
-use serve_script::{ServeCommand, ServeOp, ServeQuery, ServedCommand, served_commands};
+use serve_script::{Op, ServeCommand, ServeQuery, ServedCommand, served_commands};
 use std::alloc::{AllocError, Global};
 use std::test::Fail;
 
 /// How many commands an input has, or its first bad record.
 fn read(alloc: Global, input: &[u8]) -> Result<usize, ScriptFault> {
     Ok(
-        served_commands::<ServeOp, ServeQuery>(alloc, input)?
+        served_commands::<Op, ServeQuery>(alloc, input)?
             .items()
             .len(),
     )
@@ -110,11 +110,11 @@ fn the_words_of_the_codes_of_serve(rt: HostRuntime) -> Result<(), Fail> {
 const SPELLED: &[u8] =
     b"serve,2\nb,1,put,1,10,del,2,add,3,30,wipe,4,5\nr,0,sum,6,7\nround\nr,1,size\n";
 
-const OPERATIONS: &[ServeOp] = &[
-    ServeOp::Put { key: 1, val: 10 },
-    ServeOp::Del { key: 2 },
-    ServeOp::Add { key: 3, val: 30 },
-    ServeOp::Wipe { lo: 4, hi: 5 },
+const OPERATIONS: &[Op] = &[
+    Op::Put { key: 1, val: 10 },
+    Op::Del { key: 2 },
+    Op::Add { key: 3, val: 30 },
+    Op::Wipe { lo: 4, hi: 5 },
 ];
 
 /// Whether the commands are those that `SPELLED` spells.
@@ -145,7 +145,7 @@ fn are_spelled(commands: &[ServeCommand]) -> bool {
 
 #[test]
 fn commands_of_serve_are_as_spelled(rt: HostRuntime) -> Result<(), Fail> {
-    let commands = served_commands::<ServeOp, ServeQuery>(rt.alloc(), SPELLED)?;
+    let commands = served_commands::<Op, ServeQuery>(rt.alloc(), SPELLED)?;
     assert!(rt; are_spelled(commands.items()));
     Ok(())
 }

@@ -13,8 +13,8 @@ pub returns-in_default : goal.returns-in_default
 returns-in_default g c =
     let places = c.as_slice.ensures.value ∙ c.in_ok-places.ensures in
     let none = rw c.in_default.is at c.in_ok-told.ensures in
-    let answers = g.met.S.Answers g.world.𝓛 g.world.𝓜 g.world.𝓡 ((λ s x. x), (λ x. x), (λ x. x), λ x. x) in
-    the_verdict g.S.State.step g.S.Answers.answer_of g.S.Answers.last_of c.args.base c.args.callers c.args.records.now c.requires.numbered c.requires.rounds c.args.text.now answers.in_line answers.last_line (search rules) (No 0)
+    let answers = g.met.A.Answers g.world.𝓛 g.world.𝓜 g.world.𝓡 ((λ s x. x), (λ x. x), (λ x. x), λ x. x) in
+    the_verdict g.S.State.step g.A.Answers.answer_of g.A.Answers.last_of c.args.base c.args.callers c.args.records.now c.requires.numbered c.requires.rounds c.args.text.now answers.in_line answers.last_line (search rules) (No 0)
     (inl (refl, λ reads order is. none (numbers_in reads) order (subst (λ (l : List ℕ). HasForm l (numbers_in reads) order c.args.text.now) (sym places) is.form)))
 
 pub readings-requires : goal.readings-requires
@@ -51,6 +51,6 @@ returns g c =
     let told = c.in-Some.told in
     let tells = rw c.in-Some.is at c.in_ok-told.ensures in
     let text = is_told c.as_slice.result.now told.replies.items told.order.items told.last.now c.args.text.now tells in
-    let answers = g.met.S.Answers g.world.𝓛 g.world.𝓜 g.world.𝓡 ((λ s x. x), (λ x. x), (λ x. x), λ x. x) in
-    the_verdict g.S.State.step g.S.Answers.answer_of g.S.Answers.last_of c.args.base c.args.callers c.args.records.now c.requires.numbered c.requires.rounds c.args.text.now answers.in_line answers.last_line (search rules) c.in_ok-verdict.verdict
-    (subst (λ (l : List ℕ). IsVerdict g.S.State.step g.S.Answers.answer_of g.S.Answers.last_of c.args.base c.args.records.now l c.in_ok-verdict.verdict) (sym text) c.in_ok-verdict.ensures)
+    let answers = g.met.A.Answers g.world.𝓛 g.world.𝓜 g.world.𝓡 ((λ s x. x), (λ x. x), (λ x. x), λ x. x) in
+    the_verdict g.S.State.step g.A.Answers.answer_of g.A.Answers.last_of c.args.base c.args.callers c.args.records.now c.requires.numbered c.requires.rounds c.args.text.now answers.in_line answers.last_line (search rules) c.in_ok-verdict.verdict
+    (subst (λ (l : List ℕ). IsVerdict g.S.State.step g.A.Answers.answer_of g.A.Answers.last_of c.args.base c.args.records.now l c.in_ok-verdict.verdict) (sym text) c.in_ok-verdict.ensures)

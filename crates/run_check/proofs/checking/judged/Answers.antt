@@ -33,7 +33,7 @@ returns-in_default g c =
     let first : c.as_slice.result.now ≡ placed_of records = c.as_slice.ensures.value ∙ c.in_ok-placed.ensures in
     let order_is : c.as_slice-2.result.now ≡ order = c.as_slice-2.ensures.value in
     let none = rw c.in_default.is at c.in_ok-ordered.ensures in
-    inr (fails_once g.S.State.step g.S.Answers.answer_of g.S.Answers.last_of c.args.base c.args.callers records c.requires.numbered c.requires.rounds text c.args.reads.now order named
+    inr (fails_once g.S.State.step g.A.Answers.answer_of g.A.Answers.last_of c.args.base c.args.callers records c.requires.numbered c.requires.rounds text c.args.reads.now order named
     (λ perm. none (subst (λ (l : List (Placed g.row.S-Op.Denot)). IsPermutation (tags_of l) c.as_slice-2.result.now) (sym first) (subst (IsPermutation (tags_of (placed_of records))) (sym order_is) perm))))
 
 pub broken_point-requires-clause-rise : goal.broken_point-requires-clause-rise
@@ -83,7 +83,7 @@ returns-in-Some-2 g c =
     let least : IsLeastFailing (Passes (placed_of records) ordered c.args.reads.now) c.in-Some-2.point =
     subst (λ (l : List (Placed g.row.S-Op.Denot)). IsLeastFailing (Passes l ordered c.args.reads.now) c.in-Some-2.point) second
     (subst (λ (l : List (Placed g.row.S-Op.Denot)). IsLeastFailing (Passes c.as_slice-3.result.now l c.args.reads.now) c.in-Some-2.point) others tested) in
-    inr (fails_at g.S.State.step g.S.Answers.answer_of g.S.Answers.last_of c.args.base c.args.callers records c.requires.numbered c.requires.rounds text c.args.reads.now order named ordered same tags c.in-Some-2.point least)
+    inr (fails_at g.S.State.step g.A.Answers.answer_of g.A.Answers.last_of c.args.base c.args.callers records c.requires.numbered c.requires.rounds text c.args.reads.now order named ordered same tags c.in-Some-2.point least)
 
 pub are_right-requires-clause-told : goal.are_right-requires-clause-told
 are_right-requires-clause-told g c = λ lives bounds.
@@ -117,7 +117,7 @@ are_right-requires-clause-most g c = λ lives bounds.
     let replies : c.as_slice-6.result.now ≡ told = c.as_slice-6.ensures.value in
     let many = many_entries c.args.callers records c.requires.numbered c.requires.rounds ordered same c.args.reads.now ((passes 4).bounds refl) in
     let count : length (entries_in ordered) ≡ length c.as_slice-5.result.now = sym (ap length batches ∙ length-map (entries_in ordered) (λ (e : Entry g.row.S-Op.Denot). e.batch)) in
-    subst (λ (n : ℕ). All (λ (a : Answered g.row.S-Query.Denot). a.number ≤ n) c.args.reads.now) count many
+    subst (λ (n : ℕ). All (λ (a : Answered g.row.A-Query.Denot). a.number ≤ n) c.args.reads.now) count many
 
 pub returns-then-branch : goal.returns-then-branch
 returns-then-branch g c =
@@ -143,11 +143,11 @@ returns-then-branch g c =
     let replies : c.as_slice-6.result.now ≡ told = c.as_slice-6.ensures.value in
     let places = places_same records c.args.reads.now told order end text c.requires.asked c.requires.numbers c.requires.told in
     let tagged = map_twice (λ (p : Placed g.row.S-Op.Denot). p.entry) (λ (e : Entry g.row.S-Op.Denot). e.tag) ordered ∙ tags in
-    let right : AreRight g.S.State.step g.S.Answers.answer_of g.S.Answers.last_of c.args.base (batches_in (entries_in ordered)) c.args.reads.now told end =
-    subst (λ (l : List Told). AreRight g.S.State.step g.S.Answers.answer_of g.S.Answers.last_of c.args.base (batches_in (entries_in ordered)) c.args.reads.now l end) replies
-    (subst (λ (l : List (List g.row.S-Op.Denot)). AreRight g.S.State.step g.S.Answers.answer_of g.S.Answers.last_of c.args.base l c.args.reads.now c.as_slice-6.result.now end) batches (c.in_ok-are_right.ensures.0 c.if-branch.true)) in
-    runs g.S.State.step g.S.Answers.answer_of g.S.Answers.last_of c.args.base c.args.callers records c.requires.numbered c.requires.rounds text c.args.reads.now order named ordered same tags passes
-    (right_text g.S.State.step g.S.Answers.answer_of g.S.Answers.last_of c.args.base (entries_in ordered) c.args.reads.now told order end places (sym c.requires.numbers) tagged right)
+    let right : AreRight g.S.State.step g.A.Answers.answer_of g.A.Answers.last_of c.args.base (batches_in (entries_in ordered)) c.args.reads.now told end =
+    subst (λ (l : List Told). AreRight g.S.State.step g.A.Answers.answer_of g.A.Answers.last_of c.args.base (batches_in (entries_in ordered)) c.args.reads.now l end) replies
+    (subst (λ (l : List (List g.row.S-Op.Denot)). AreRight g.S.State.step g.A.Answers.answer_of g.A.Answers.last_of c.args.base l c.args.reads.now c.as_slice-6.result.now end) batches (c.in_ok-are_right.ensures.0 c.if-branch.true)) in
+    runs g.S.State.step g.A.Answers.answer_of g.A.Answers.last_of c.args.base c.args.callers records c.requires.numbered c.requires.rounds text c.args.reads.now order named ordered same tags passes
+    (right_text g.S.State.step g.A.Answers.answer_of g.A.Answers.last_of c.args.base (entries_in ordered) c.args.reads.now told order end places (sym c.requires.numbers) tagged right)
 
 pub returns : goal.returns
 returns g c =
@@ -173,12 +173,12 @@ returns g c =
     let replies : c.as_slice-6.result.now ≡ told = c.as_slice-6.ensures.value in
     let places = places_same records c.args.reads.now told order end text c.requires.asked c.requires.numbers c.requires.told in
     let tagged = map_twice (λ (p : Placed g.row.S-Op.Denot). p.entry) (λ (e : Entry g.row.S-Op.Denot). e.tag) ordered ∙ tags in
-    let answers = g.met.S.Answers g.world.𝓛 g.world.𝓜 g.world.𝓡 ((λ s x. x), (λ x. x), (λ x. x), λ x. x) in
+    let answers = g.met.A.Answers g.world.𝓛 g.world.𝓜 g.world.𝓡 ((λ s x. x), (λ x. x), (λ x. x), λ x. x) in
     let in_line = told_in_line records c.args.reads.now told order end text c.requires.asked c.requires.numbers c.requires.told in
-    inr (fails_text g.S.State.step g.S.Answers.answer_of g.S.Answers.last_of c.args.base c.args.callers records c.requires.numbered c.requires.rounds text c.args.reads.now order named ordered same tags passes
+    inr (fails_text g.S.State.step g.A.Answers.answer_of g.A.Answers.last_of c.args.base c.args.callers records c.requires.numbered c.requires.rounds text c.args.reads.now order named ordered same tags passes
     (λ e.
-    let right = text_right g.S.State.step g.S.Answers.answer_of g.S.Answers.last_of c.args.base (entries_in ordered) c.args.reads.now told order end places (sym c.requires.numbers) tagged answers.in_line in_line e in
+    let right = text_right g.S.State.step g.A.Answers.answer_of g.A.Answers.last_of c.args.base (entries_in ordered) c.args.reads.now told order end places (sym c.requires.numbers) tagged answers.in_line in_line e in
     let z : false ≡ true = sym c.if-branch.false
-    ∙ c.in_ok-are_right.ensures.1 (subst (λ (l : List Told). AreRight g.S.State.step g.S.Answers.answer_of g.S.Answers.last_of c.args.base c.as_slice-5.result.now c.args.reads.now l end) (sym replies)
-    (subst (λ (l : List (List g.row.S-Op.Denot)). AreRight g.S.State.step g.S.Answers.answer_of g.S.Answers.last_of c.args.base l c.args.reads.now told end) (sym batches) right)) in
+    ∙ c.in_ok-are_right.ensures.1 (subst (λ (l : List Told). AreRight g.S.State.step g.A.Answers.answer_of g.A.Answers.last_of c.args.base c.as_slice-5.result.now c.args.reads.now l end) (sym replies)
+    (subst (λ (l : List (List g.row.S-Op.Denot)). AreRight g.S.State.step g.A.Answers.answer_of g.A.Answers.last_of c.args.base l c.args.reads.now told end) (sym batches) right)) in
     cc))

@@ -17,5 +17,5 @@ pub returns : goal.returns
 returns g c =
     let found = rw c.in-Some.is at c.in_ok-standing.ensures in
     let standing = c.in-Some.standing in
-    let end = ap g.S.Answers.last_of (to_the_end g.S.State.step c.args.base standing.state c.args.batches.now standing.number found.1) in
+    let end = ap g.A.Answers.last_of (to_the_end g.S.State.step c.args.base standing.state c.args.batches.now standing.number found.1) in
     IfOk-weaker c.ends_right.result _ _ (λ right tells. (λ yes. record { answers = found.2; ends = tells.0 yes ∙ end }, λ all. tells.1 (all.ends ∙ sym end))) c.ends_right.ensures

@@ -8,4 +8,4 @@ pub returns : goal.returns
 returns g c =
     let start = c.args.standing in
     let state = c.in_ok-all.ensures.state ∙ ap (after g.S.State.step start.state) (between_rest start.number c.args.batches.now) in
-    subst (λ (s : g.row.S.Denot). IfOk c.is_last_line.result (λ right. IsTrue right ↔ (c.args.last.now ≡ g.S.Answers.last_of s))) state c.is_last_line.ensures
+    subst (λ (s : g.row.S.Denot). IfOk c.is_last_line.result (λ right. IsTrue right ↔ (c.args.last.now ≡ g.A.Answers.last_of s))) state c.is_last_line.ensures

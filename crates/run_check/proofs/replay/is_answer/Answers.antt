@@ -7,7 +7,7 @@ use Rattle.run_check.proofs.replay.is_answer.Goals as goal
 
 pub returns : goal.returns
 returns g c =
-    let expected = g.S.Answers.answer_of c.args.state.now c.args.query.now in
+    let expected = g.A.Answers.answer_of c.args.state.now c.args.query.now in
     let mine : c.as_slice.result.now ≡ expected = c.as_slice.ensures.value ∙ c.in_ok-answer.ensures ∙ ap (λ (l : List ℕ). l ++ expected) c.clear.ensures.items in
     let same : c.eq.result ≡ pointwise eqb c.args.answer.now expected = c.eq.ensures ∙ (λ i. pointwise eqb c.args.answer.now (mine i)) in
     slice_eq-Decides Decides-eqb c.args.answer.now expected c.eq.result same

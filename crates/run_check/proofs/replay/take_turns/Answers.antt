@@ -14,7 +14,7 @@ loop-turn-init g c = record {
   most = omega arith;
   state = refl;
   reached = λ j d low h. omega arith;
-  answers = no_answers (answer_to g.S.State.step g.S.Answers.answer_of c.args.base c.args.batches.now) c.args.reads.now (answers_told c.args.replies.now)
+  answers = no_answers (answer_to g.S.State.step g.A.Answers.answer_of c.args.base c.args.batches.now) c.args.reads.now (answers_told c.args.replies.now)
       (length-map c.args.replies.now (λ (t : Told). t.answer) ∙ c.requires.told);
 }
 
@@ -26,15 +26,15 @@ loop-turn-preserved g c =
     let told = c.args.replies.now in
     let batches = c.args.batches.now in
     let step = g.S.State.step in
-    let own = answer_to step g.S.Answers.answer_of c.args.base batches in
+    let own = answer_to step g.A.Answers.answer_of c.args.base batches in
     let inside : i < length turns = omega arith in
     let none : Turn = record { number = 0; at = 0 } in
     let t : Turn = get_or turns i none in
     let read = c.index-reads-turn.result in
     let reply = c.index-replies-turn.result in
     let turn = c.requires.turns.each i none inside in
-    let number : read.number ≡ t.number = ap (λ (a : Answered g.row.S-Query.Denot). a.number) c.index-reads-turn.is ∙ turn.number_is read in
-    let most : read.number ≤ length batches = subst (λ (a : Answered g.row.S-Query.Denot). a.number ≤ length batches) (sym c.index-reads-turn.is) (c.requires.most t.at read turn.within) in
+    let number : read.number ≡ t.number = ap (λ (a : Answered g.row.A-Query.Denot). a.number) c.index-reads-turn.is ∙ turn.number_is read in
+    let most : read.number ≤ length batches = subst (λ (a : Answered g.row.A-Query.Denot). a.number ≤ length batches) (sym c.index-reads-turn.is) (c.requires.most t.at read turn.within) in
     let old = c.loop-turn.standing in
     let next = c.in-Some.next in
     let found = rw c.in-Some.is at c.in_ok-next.ensures in
@@ -44,7 +44,7 @@ loop-turn-preserved g c =
     let placed : t.at < length told = omega (arith, turn.within, c.requires.told) in
     let answer : get_or (answers_told told) t.at reply.answer ≡ own read =
     get_or-map (λ (u : Told). u.answer) told t.at reply reply.answer placed ∙ sym (ap (λ (u : Told). u.answer) c.index-replies-turn.is) ∙ found.2
-    ∙ ap (λ (s : g.row.S.Denot). g.S.Answers.answer_of s read.asked.query) next_state in
+    ∙ ap (λ (s : g.row.S.Denot). g.A.Answers.answer_of s read.asked.query) next_state in
     record {
       most = omega (arith, most, found.0);
       state = next_state ∙ ap (λ (n : ℕ). after step c.args.base (take n batches)) (sym found.0);
@@ -63,14 +63,14 @@ returns-in_default g c =
     let told = c.args.replies.now in
     let batches = c.args.batches.now in
     let step = g.S.State.step in
-    let own = answer_to step g.S.Answers.answer_of c.args.base batches in
+    let own = answer_to step g.A.Answers.answer_of c.args.base batches in
     let inside : i < length turns = omega arith in
     let none : Turn = record { number = 0; at = 0 } in
     let t : Turn = get_or turns i none in
     let read = c.index-reads-turn.result in
     let reply = c.index-replies-turn.result in
     let turn = c.requires.turns.each i none inside in
-    let number : read.number ≡ t.number = ap (λ (a : Answered g.row.S-Query.Denot). a.number) c.index-reads-turn.is ∙ turn.number_is read in
+    let number : read.number ≡ t.number = ap (λ (a : Answered g.row.A-Query.Denot). a.number) c.index-reads-turn.is ∙ turn.number_is read in
     let old = c.loop-turn.standing in
     let other = rw c.in_default.is at c.in_ok-next.ensures in
     let least : old.number ≤ read.number = let reached = c.loop-turn.invariant.reached i none (omega arith) inside in omega (arith, reached, number) in
@@ -78,11 +78,11 @@ returns-in_default g c =
     let placed : t.at < length told = omega (arith, turn.within, c.requires.told) in
     wrong_answer own reads (answers_told told) t.at read reply.answer turn.within c.index-reads-turn.is (λ is. other
     (ap (λ (u : Told). u.answer) c.index-replies-turn.is ∙ sym (get_or-map (λ (u : Told). u.answer) told t.at reply reply.answer placed) ∙ is
-    ∙ sym (ap (λ (s : g.row.S.Denot). g.S.Answers.answer_of s read.asked.query) state)))
+    ∙ sym (ap (λ (s : g.row.S.Denot). g.A.Answers.answer_of s read.asked.query) state)))
 
 pub returns : goal.returns
 returns g c =
-    let own = answer_to g.S.State.step g.S.Answers.answer_of c.args.base c.args.batches.now in (
+    let own = answer_to g.S.State.step g.A.Answers.answer_of c.args.base c.args.batches.now in (
       c.loop-turn.invariant.most,
       c.loop-turn.invariant.state,
       all_answers own c.args.reads.now c.args.turns.now c.loop-turn.turn-index (answers_told c.args.replies.now) c.requires.turns (omega arith) c.loop-turn.invariant.answers,

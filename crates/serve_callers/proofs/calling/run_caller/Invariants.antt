@@ -6,4 +6,4 @@ use Rattle.serve_callers.proofs.calling.run_caller.Given as goal
 abbrev pub invariant-loop-record : goal.invariant-loop-record
 invariant-loop-record g l =
     (new : List (List ℕ)) × (l.lines ≡ l.initial.lines ++ new)
-    × HasRun g.S.State.step g.S.Answers.answer_of (records_of l.initial.caller.number (take l.record-index l.records)) l.initial.caller l.caller new
+    × HasRun g.S.State.step g.A.Answers.answer_of (records_of l.initial.caller.number (take l.record-index l.records)) l.initial.caller l.caller new

@@ -7,5 +7,5 @@ pub returns-then-record-number : goal.returns-then-record-number
 returns-then-record-number g c = (
   [],
   sym (append-nil c.args.lines.now),
-  run_other g.S.State.step g.S.Answers.answer_of c.args.number c.args.«record».now c.args.caller.now c.if-record-number.true,
+  run_other g.S.State.step g.A.Answers.answer_of c.args.number c.args.«record».now c.args.caller.now c.if-record-number.true,
 )

@@ -1,5 +1,5 @@
-use Rattle.std.proofs.Common.{◌≡◌, map, take}
+use Rattle.std.proofs.Common.{◌≡◌, take}
 use Rattle.serve_input.proofs.converting.batch_of.Given as goal
 
 abbrev pub invariant-loop-op : goal.invariant-loop-op
-invariant-loop-op g l = l.list.items ≡ map g.O.Says.op_of (take l.op-index l.ops)
+invariant-loop-op g l = l.list.items ≡ take l.op-index l.ops

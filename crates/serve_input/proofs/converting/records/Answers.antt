@@ -9,7 +9,7 @@ push_record-requires g c = rw c.command-item.is (small c.args.commands.now c.req
 
 pub loop-command-preserved : goal.loop-command-preserved
 loop-command-preserved g c =
-    let more = records-more g.O.Says.op_of c.loop-command.round c.args.commands.now c.loop-command.command-index c.command-item.result c.loop-command.records.items _ (omega arith) c.command-item.is c.loop-command.invariant.so_far in
+    let more = records-more c.loop-command.round c.args.commands.now c.loop-command.command-index c.command-item.result c.loop-command.records.items _ (omega arith) c.command-item.is c.loop-command.invariant.so_far in
     record {
       few = omega (arith, c.loop-command.invariant.few, c.rounds_in-round.ensures, one_round c.command-item.result);
       so_far = rw (c.rounds_in-round.ensures, c.in_ok-push_record.ensures) more;
@@ -17,10 +17,10 @@ loop-command-preserved g c =
 
 pub returns : goal.returns
 returns g c =
-    let whole : c.loop-command.records.items ≡ records_of g.O.Says.op_of c.args.commands.now =
-    sym (c.loop-command.invariant.so_far ∙ ap (λ rest. c.loop-command.records.items ++ rest) (records-end g.O.Says.op_of c.loop-command.round c.args.commands.now c.loop-command.command-index (omega arith)) ∙ append-nil c.loop-command.records.items) in
+    let whole : c.loop-command.records.items ≡ records_of c.args.commands.now =
+    sym (c.loop-command.invariant.so_far ∙ ap (λ rest. c.loop-command.records.items ++ rest) (records-end c.loop-command.round c.args.commands.now c.loop-command.command-index (omega arith)) ∙ append-nil c.loop-command.records.items) in
     record {
       value = whole;
-      rounds = rw whole (in_rounds g.O.Says.op_of c.args.commands.now c.requires);
-      numbered = rw whole (numbered g.O.Says.op_of c.args.commands.now c.requires (search rules));
+      rounds = rw whole (in_rounds c.args.commands.now c.requires);
+      numbered = rw whole (numbered c.args.commands.now c.requires (search rules));
     }

@@ -5,5 +5,5 @@ use Rattle.serve_input.proofs.converting.records.Given as goal
 abbrev pub invariant-loop-command : goal.invariant-loop-command
 invariant-loop-command g l = record {
   few : l.round ≤ l.command-index;
-  so_far : records_of g.O.Says.op_of l.commands ≡ l.records.items ++ records_from g.O.Says.op_of l.round (drop l.command-index l.commands);
+  so_far : records_of l.commands ≡ l.records.items ++ records_from l.round (drop l.command-index l.commands);
 }

@@ -9,7 +9,7 @@ use Rattle.serve_rounds.proofs.running.+run_callers.Goals as goal
 pub returns : goal.returns
 returns g n c =
     let step = g.S.State.step in
-    let answer = g.S.Answers.answer_of in
+    let answer = g.A.Answers.answer_of in
     let records = c.args.round.now.records.now in
     let front = c.split_off.new.self.items in
     let back = c.in_ok-back.back.items in

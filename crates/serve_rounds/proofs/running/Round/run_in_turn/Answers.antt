@@ -6,7 +6,7 @@ use Rattle.serve_rounds.proofs.running.Round.run_in_turn.Goals as goal
 pub loop-caller-preserved : goal.loop-caller-preserved
 loop-caller-preserved g c =
     let step = g.S.State.step in
-    let answer = g.S.Answers.answer_of in
+    let answer = g.A.Answers.answer_of in
     let records = c.args.self.now.records.now in
     let callers = c.loop-caller.yielded in
     let one = c.in-Some.caller in

@@ -1,8 +1,0 @@
-use Rattle.graph_snap.proofs.Crosses.{crosses}
-use Rattle.gserve_check.proofs.checking.check.Goals as goal
-
-pub check-requires-send-S : goal.check-requires-send-S
-check-requires-send-S g c κs within = search crosses depth 40
-
-pub check-requires-sync-S : goal.check-requires-sync-S
-check-requires-sync-S g c κs within = search crosses depth 40

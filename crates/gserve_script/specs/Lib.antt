@@ -1,2 +1,0 @@
-pub mod Gserve
-pub mod EdgeOps
