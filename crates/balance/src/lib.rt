@@ -3,7 +3,7 @@
 //! The weight of a tree is its number of entries plus 1. The balance and the turns are those of weight-balanced trees
 //! with the parameter 1/4.
 //!
-//! Tests: `ground_tests`. Wrong bodies: none here; `join_core` and `seq_core` prove their balance by these clauses.
+//! Tests: `ground_tests`. Wrong bodies: none here; `tree_join` and `seq_core` prove their balance by these clauses.
 #![tactic(auto)]
 
 ghost use Rattle.std.specs.Prelude.{◌≡◌, ◌+◌, ◌*◌, ◌^◌, ◌<◌, ◌≤◌, ◌↔◌, IsTrue};

@@ -3,6 +3,8 @@
 //! `union_of`, `intersect_of` and `difference_of` answer new lists in O(m + n) for slices of m and n entries.
 //! `cut_slice` and `cut_front` lend the entries below a key, the value at it and those above it: the one by halves, the other
 //! from the front, where the key is near. A call refuses only for want of memory.
+//!
+//! Tests: `ground_tests`. Wrong bodies: none here; the crates above state these clauses again.
 #![tactic(auto)]
 
 mod differing;

@@ -4,6 +4,8 @@
 //! gap from the number before and the value, each in the shortest form of seven bits a byte. `ValueCode` says how values are
 //! coded. A place among n entries is reached by a walk over the bytes, in O(n); a cut or a change copies runs of bytes, and codes
 //! only a new entry and the number after it anew. A call that makes one refuses only for want of memory.
+//!
+//! Tests: `ground_tests`, through the leaves. Wrong bodies: here, in `wrong-bodies/`.
 #![tactic(auto)]
 
 mod build;
