@@ -4,13 +4,15 @@
 //! and the nanoseconds that it took, without making its input, to standard error.
 mod asking;
 mod combining;
-mod map;
 mod making;
+mod many;
+mod map;
 
 use asking::Question;
 use bench_common::{parsed, words};
 use combining::{two, Combined, Whole};
 use im_rc::OrdMap;
+use many::Asked;
 use map::Map;
 use std::collections::BTreeMap;
 
@@ -22,6 +24,8 @@ fn run<M: Map>(operation: &str, size: u64, seed: u64) {
         "coded" => making::coded::<M>(size, seed),
         "coded_rising" => making::coded_rising::<M>(size),
         "get" => asking::time::<M>(Question::Get, size, seed),
+        "get_many" => many::time::<M>(Asked::AtRandom, size, seed),
+        "get_sorted" => many::time::<M>(Asked::Sorted, size, seed),
         "range_fold" => asking::time::<M>(Question::RangeFold, size, seed),
         "rank" => asking::time::<M>(Question::Rank, size, seed),
         "select" => asking::time::<M>(Question::Select, size, seed),

@@ -1,11 +1,14 @@
 //! `kit_bench OPERATION SIZE SEED`: does one operation of the toolchain's own proved `BTreeMap` on the entries that `pam_bench` has
 //! for the same words. It writes the checksum of the answer to standard output, and to standard error the nanoseconds that the
 //! operation took, without making its input.
+//!
+//! Tests: its run by `bench/maps_run`. Wrong bodies: none; it promises nothing but to be safe.
 #![tactic(auto)]
 
 mod asking;
 mod combining;
 mod making;
+mod many;
 mod numbers;
 mod timed;
 
@@ -13,6 +16,7 @@ use anyhow::{Context, Result, bail};
 use asking::Question;
 use combining::{Combined, Whole, time_one, time_two};
 use making::Making;
+use many::Asked;
 use std::alloc::Global;
 use std::collections::BTreeMap;
 use std::env;
@@ -34,6 +38,8 @@ fn run<R: Clock>(rt: &R, alloc: Global, name: &str, size: u64, seed: u64) -> Res
         "map_reduce" => time_one(rt, alloc, Whole::MapReduce, size, seed),
         "walk" => time_one(rt, alloc, Whole::Walk, size, seed),
         "get" => asking::time(rt, alloc, Question::Get, size, seed),
+        "get_many" => many::time(rt, alloc, Asked::AtRandom, size, seed),
+        "get_sorted" => many::time(rt, alloc, Asked::Sorted, size, seed),
         "range_fold" => asking::time(rt, alloc, Question::RangeFold, size, seed),
         "rank" => asking::time(rt, alloc, Question::Rank, size, seed),
         "select" => asking::time(rt, alloc, Question::Select, size, seed),

@@ -9,6 +9,7 @@ mod asking;
 mod checksum;
 mod combining;
 mod making;
+mod many;
 mod numbers;
 mod timed;
 
@@ -19,6 +20,7 @@ use aug_monoid::SumMax;
 use combining::{Combined, Whole, time_one, time_two};
 use fork_join::{Cut, FreeGate, On};
 use making::Making;
+use many::Asked;
 use std::alloc::Global;
 use std::env;
 use std::marker::Sync;
@@ -62,6 +64,8 @@ fn run<R: Threads + Clock + Sync>(
         "map_reduce" => time_one(on, alloc, Whole::MapReduce, size, seed),
         "walk" => time_one(on, alloc, Whole::Walk, size, seed),
         "get" => asking::time(on, alloc, Question::Get, size, seed),
+        "get_many" => many::time(on, alloc, Asked::AtRandom, size, seed),
+        "get_sorted" => many::time(on, alloc, Asked::Sorted, size, seed),
         "range_fold" => asking::time(on, alloc, Question::RangeFold, size, seed),
         "rank" => asking::time(on, alloc, Question::Rank, size, seed),
         "select" => asking::time(on, alloc, Question::Select, size, seed),
