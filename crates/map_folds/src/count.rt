@@ -57,4 +57,9 @@ impl<K: Key, V: Share> Augment for Count<K, V> {
     fn is_total() -> bool {
         true
     }
+
+    #[tactic(auto, using(crate::proofs::Commutes::capped_commutes))]
+    fn commutes() -> bool {
+        true
+    }
 }

@@ -95,4 +95,9 @@ impl<K: Key> Augment for Mean<K> {
     fn is_total() -> bool {
         true
     }
+
+    #[tactic(auto, using(crate::proofs::Commutes::means_commute))]
+    fn commutes() -> bool {
+        true
+    }
 }

@@ -60,6 +60,11 @@ impl<K: Key> Augment for SaturatingSum<K> {
     fn is_total() -> bool {
         true
     }
+
+    #[tactic(auto, using(crate::proofs::Commutes::capped_commutes))]
+    fn commutes() -> bool {
+        true
+    }
 }
 
 /// The sum of the values, and none where it is above `u64::MAX`.
@@ -115,6 +120,11 @@ impl<K: Key> Augment for CheckedSum<K> {
     fn is_total() -> bool {
         true
     }
+
+    #[tactic(auto, using(crate::proofs::Commutes::checked_commutes))]
+    fn commutes() -> bool {
+        true
+    }
 }
 
 /// The sum of values with a sign, in 128 bits. It wraps beyond them, which takes more than 2^64 values; a map has fewer than 2^60.
@@ -165,6 +175,11 @@ impl<K: Key> Augment for SignedSum<K> {
     }
 
     fn is_total() -> bool {
+        true
+    }
+
+    #[tactic(auto, using(crate::proofs::Commutes::signed_commutes))]
+    fn commutes() -> bool {
         true
     }
 }

@@ -69,6 +69,11 @@ impl<
     fn is_total() -> bool {
         A1::is_total() && A2::is_total() && A3::is_total()
     }
+
+    #[tactic(auto, using(crate::proofs::Commutes::triple_commutes))]
+    fn commutes() -> bool {
+        A1::commutes() && A2::commutes() && A3::commutes()
+    }
 }
 
 // A generic function that a method of the impl calls. It counts the steps of the parts for itself.

@@ -57,6 +57,11 @@ impl<K: Key> Augment for AnyTrue<K> {
     fn is_total() -> bool {
         true
     }
+
+    #[tactic(auto, using(crate::proofs::Commutes::any_commutes))]
+    fn commutes() -> bool {
+        true
+    }
 }
 
 /// Whether all values are `true`, as they are where there are none.
@@ -107,6 +112,11 @@ impl<K: Key> Augment for AllTrue<K> {
     }
 
     fn is_total() -> bool {
+        true
+    }
+
+    #[tactic(auto, using(crate::proofs::Commutes::all_commutes))]
+    fn commutes() -> bool {
         true
     }
 }

@@ -1,5 +1,6 @@
 mod Costs
 mod Owned
+mod Taking
 mod Sides
 mod Changed
 mod PutNodes

@@ -2,9 +2,10 @@
 ghost use Rattle.std.specs.Prelude.{◌≡◌, ◌+◌, ◌<◌, ◌≤◌, ◌↔◌, ◌++◌, IfOk, OnErr, IsSome, IsTrue, length, take, drop};
 ghost use Rattle.map_model.specs.Entries.{IsIncreasing, below, lookup, set};
 ghost use Rattle.map_model.specs.Fold.{fold_of};
+ghost use Rattle.tree_change.specs.Refreshed.{TakesIn};
 
 use crate::shape_mut::ShapeMut;
-use aug_monoid::{Key, LeafMut, NoMemory, Seek, Share, Steps};
+use aug_monoid::{Augment, Key, Leaf, LeafMut, NoMemory, Seek, Share, Steps};
 use std::alloc::Global;
 use std::sync::ledger::Ledger;
 use tree_shape::{Block, fold_leaf};
@@ -31,16 +32,47 @@ fn put_at_place<K: Key, V: Share, L: LeafMut<K, V>>(
     }
 }
 
-/// Sets a key of a block to a value at its place, and makes the fold anew.
+/// The fold of a leaf after a put: what it was, combined with the base value of the entry where that is new and values combine alike
+/// in either order, and else made anew.
+fn fold_after_put<A: Augment, L: Leaf<A::Key, A::Val>, C: Ledger>(
+    alloc: Global,
+    leaf: &L,
+    is_new: bool,
+    old: &A::Aug,
+    base: &A::Aug,
+    steps: &mut Steps<C>,
+) -> A::Aug
+    requires total { A.never_refuses }
+    requires some { 0 < length (L.entries leaf.now) }
+    requires grown { IsTrue is_new → TakesIn A.Fits A.base_of A.unit_of A.combined old.now base.now (L.entries leaf.now) }
+    ensures fold { result ≡ fold_of A.base_of A.unit_of A.combined (L.entries leaf.now) }
+    ensures cost { steps.new ≤ steps.old + length (L.entries leaf.now) }
+{
+    if is_new && A::commutes() {
+        let Ok(grown) = A::combine(alloc, old, base, steps) else {
+            unreachable!()
+        };
+        return grown;
+    }
+    let Ok(fold) = fold_leaf::<A, L, C>(alloc, leaf, steps) else {
+        unreachable!()
+    };
+    fold
+}
+
+/// Sets a key of a block to a value at its place, and makes the fold of what it was and the entry's base value, or anew.
 pub(crate) fn put_in_own_block<M: ShapeMut, C: Ledger>(
     alloc: Global,
     block: &mut Block<M>,
     place: Seek,
     key: M::Key,
     val: M::Val,
+    base: &M::Aug,
     steps: &mut Steps<C>,
 ) -> Result<(), NoMemory>
     requires total { M.Augment.never_refuses }
+    requires base { base.now ≡ M.Augment.base_of key val }
+    requires folded { block.old.fold ≡ fold_of M.Augment.base_of M.Augment.unit_of M.Augment.combined (M.Leaf.entries block.old.leaf) }
     requires increasing { IsIncreasing M.Key.cmp (M.Leaf.entries block.old.leaf) }
     requires short { length (M.Leaf.entries block.old.leaf) ≤ 256 }
     requires at { place.at ≡ length (below M.Key.cmp (M.Leaf.entries block.old.leaf) key) }
@@ -52,10 +84,14 @@ pub(crate) fn put_in_own_block<M: ShapeMut, C: Ledger>(
     ensures cost { steps.new ≤ steps.old + (length (M.Leaf.entries block.old.leaf) + 1) }
 {
     put_at_place(alloc, &mut block.leaf, place, key, val)?;
-    let Ok(fold) = fold_leaf::<M::Augment, M::Leaf, C>(alloc, &block.leaf, steps) else {
-        unreachable!()
-    };
-    block.fold = fold;
+    block.fold = fold_after_put::<M::Augment, M::Leaf, C>(
+        alloc,
+        &block.leaf,
+        !place.hit,
+        &block.fold,
+        base,
+        steps,
+    );
     Ok(())
 }
 

@@ -1,10 +1,12 @@
 //! What a node needs to be changed in place.
-ghost use Rattle.std.specs.Prelude.{◌≡◌, ◌+◌, ◌^◌, ◌<◌, ◌≤◌, IsTrue, length};
-ghost use Rattle.tree_change.specs.Refreshed.{IsRefreshed};
+ghost use Rattle.std.specs.Prelude.{◌≡◌, ◌+◌, ◌^◌, ◌<◌, ◌≤◌, IsTrue, length, max};
+ghost use Rattle.map_model.specs.Balance.{HeightLaw};
+ghost use Rattle.aug_monoid.specs.Commuting.{IsCommutativeOver};
+ghost use Rattle.tree_change.specs.Refreshed.{IsRefreshed, NodeTakesIn};
 ghost use Rattle.tree_change.specs.Room.{CanSpare, HasRoom};
 ghost use Rattle.tree_change.specs.Ways.{IsWayOfDel, IsWayOfPut};
 
-use aug_monoid::{Key, Steps};
+use aug_monoid::{Augment, Key, Steps};
 use balance::balanced;
 use std::alloc::Global;
 use std::cmp::Ordering;
@@ -15,6 +17,24 @@ use tree_shape::{MOST_ENTRIES, Node, Shape, Tree};
 #[derive(Drop)]
 pub(crate) struct PartMut<'a, M: Shape> {
     pub(crate) tree: &'a mut Tree<M>,
+}
+
+/// How many entries a map has, and how high it is.
+#[derive(Clone, Copy)]
+pub(crate) struct Extent {
+    size: u64,
+    height: u32,
+}
+
+/// The extent of a map. O(1).
+pub(crate) fn extent_of<M: Shape>(tree: &Tree<M>) -> Extent
+    ensures size { result.size ≡ length tree.now.entries }
+    ensures height { result.height ≡ tree.now.height }
+{
+    Extent {
+        size: tree.size(),
+        height: tree.height(),
+    }
 }
 
 /// Where a change in place goes from a node on.
@@ -112,4 +132,75 @@ pub(crate) fn refresh<M: Shape, C: Ledger>(alloc: Global, node: &mut Node<M>, st
     node.fold = fold;
     node.size = size;
     node.height = height;
+}
+
+/// The height of a node, which it has already where that of its changed side is what it was.
+fn height_after_put<M: Shape>(node: &Node<M>, is_same: bool) -> u32
+    requires same { IsTrue is_same → node.now.height ≡ max node.now.left.height node.now.right.height + 1 }
+    ensures value { result ≡ max node.now.left.height node.now.right.height + 1 }
+    ensures left_law { HeightLaw M.BLOCK node.now.left.height (length node.now.left.entries) }
+    ensures right_law { HeightLaw M.BLOCK node.now.right.height (length node.now.right.entries) }
+{
+    // For the proof alone: heights are small, by how many entries there are.
+    let _left_size = node.left.size();
+    let _right_size = node.right.size();
+    let left = node.left.height();
+    let right = node.right.height();
+    if is_same {
+        return node.height;
+    }
+    let highest = left.max(right);
+    highest + 1
+}
+
+/// Takes the base value of a new entry into the fold of a node, and makes its size and height what they are with it.
+fn take_in<M: Shape, C: Ledger>(
+    alloc: Global,
+    node: &mut Node<M>,
+    is_as_high: bool,
+    base: &M::Aug,
+    steps: &mut Steps<C>,
+)
+    requires total { M.Augment.never_refuses }
+    requires fits { length node.old.left.entries + length node.old.right.entries + 1 < 2 ^ 60 }
+    requires alike { IsCommutativeOver M.Augment.Fits M.Augment.combined }
+    requires fold { NodeTakesIn M.Augment.Fits M.Augment.base_of M.Augment.unit_of M.Augment.combined node.old base.now }
+    requires size { node.old.size ≡ length node.old.left.entries + length node.old.right.entries }
+    requires height { IsTrue is_as_high → node.old.height ≡ max node.old.left.height node.old.right.height + 1 }
+    ensures node { IsRefreshed M.Augment.base_of M.Augment.unit_of M.Augment.combined M.BLOCK node.old.left node.old.key node.old.val node.old.right node.new }
+    ensures cost { steps.new ≤ steps.old + 2 }
+{
+    let Ok(grown) = <M::Augment>::combine(alloc, &node.fold, base, steps) else {
+        unreachable!()
+    };
+    let height = height_after_put(node, is_as_high);
+    node.fold = grown;
+    node.size += 1;
+    node.height = height;
+}
+
+/// Makes the fold, the size and the height of a node anew after a put into one of its sides, whose extents before and after it are
+/// given: of what they were where the side has one entry more, which has the base value, and values combine alike in either order,
+/// and else of both sides.
+pub(crate) fn refresh_after_put<M: Shape, C: Ledger>(
+    alloc: Global,
+    node: &mut Node<M>,
+    before: Extent,
+    after: Extent,
+    base: &M::Aug,
+    steps: &mut Steps<C>,
+)
+    requires total { M.Augment.never_refuses }
+    requires fits { length node.old.left.entries + length node.old.right.entries + 1 < 2 ^ 60 }
+    requires fold { before.size < after.size → NodeTakesIn M.Augment.Fits M.Augment.base_of M.Augment.unit_of M.Augment.combined node.old base.now }
+    requires size { before.size < after.size → node.old.size ≡ length node.old.left.entries + length node.old.right.entries }
+    requires height { before.height ≡ after.height → node.old.height ≡ max node.old.left.height node.old.right.height + 1 }
+    ensures node { IsRefreshed M.Augment.base_of M.Augment.unit_of M.Augment.combined M.BLOCK node.old.left node.old.key node.old.val node.old.right node.new }
+    ensures cost { steps.new ≤ steps.old + 2 }
+{
+    if before.size < after.size && <M::Augment>::commutes() {
+        take_in(alloc, node, before.height == after.height, base, steps);
+    } else {
+        refresh(alloc, node, steps);
+    }
 }

@@ -3,7 +3,7 @@ ghost use Rattle.std.specs.Prelude.{◌≡◌, ◌+◌, ◌*◌, ◌≤◌, IfOk
 ghost use Rattle.map_model.specs.Entries.{set};
 
 use crate::blocks::put_in_own_block;
-use crate::nodes::{PartMut, Way, refresh, way_of_put};
+use crate::nodes::{PartMut, Way, extent_of, refresh, refresh_after_put, way_of_put};
 use crate::shape_mut::ShapeMut;
 use aug_monoid::{Augment, Leaf, NoMemory, Steps};
 use std::alloc::Global;
@@ -27,21 +27,27 @@ pub fn put_mut<M: ShapeMut, C: Ledger>(
     ensures cost { steps.new ≤ steps.old + (64 * (tree.old.height + 1) * (M.BLOCK + 2) + M.Leaf.FIND) }
 {
     if <M::Augment>::is_total() {
-        return put_in(alloc, PartMut { tree }, key, val, steps);
+        let Ok(base) = <M::Augment>::base(alloc, &key, &val) else {
+            unreachable!()
+        };
+        return put_in(alloc, PartMut { tree }, key, val, &base, steps);
     }
     *tree = put(alloc, tree, key, val, steps)?;
     Ok(())
 }
 
-/// Whether a node may change in place is asked before the way down, so that nothing has changed when memory is asked for.
+/// Whether a node may change in place is asked before the way down, so that nothing has changed when memory is asked for. `base` is
+/// the entry's base value, with which folds are made where values combine alike in either order.
 fn put_in<M: ShapeMut, C: Ledger>(
     alloc: Global,
     part: PartMut<'_, M>,
     key: M::Key,
     val: M::Val,
+    base: &M::Aug,
     steps: &mut Steps<C>,
 ) -> Result<(), NoMemory>
     requires total { M.Augment.never_refuses }
+    requires base { base.now ≡ M.Augment.base_of key val }
     ensures entries { IfOk result (λ _. part.exit.0.now.entries ≡ set M.Key.cmp part.entry.tree.now.entries key val) }
     ensures kept { OnErr result (part.exit.0.now ≡ part.entry.tree.now) }
     ensures cost { steps.new ≤ steps.old + (64 * (part.entry.tree.now.height + 1) * (M.BLOCK + 2) + M.Leaf.FIND) }
@@ -53,7 +59,7 @@ fn put_in<M: ShapeMut, C: Ledger>(
             if let Some(block) = Arc::get_mut(owner) {
                 let place = block.leaf.seek(&key, steps);
                 if place.hit || block.leaf.len() < 2 * M::BLOCK as u64 {
-                    put_in_own_block(alloc, block, place, key, val, steps)?;
+                    put_in_own_block(alloc, block, place, key, val, base, steps)?;
                     return Ok(());
                 }
                 let split = put_sought(alloc, &block.leaf, place, key, val, steps)?;
@@ -65,6 +71,7 @@ fn put_in<M: ShapeMut, C: Ledger>(
             if let Some(node) = Arc::get_mut(owner) {
                 match way_of_put(node, &key, steps) {
                     Way::Left => {
+                        let before = extent_of(&node.left);
                         put_in(
                             alloc,
                             PartMut {
@@ -72,9 +79,11 @@ fn put_in<M: ShapeMut, C: Ledger>(
                             },
                             key,
                             val,
+                            base,
                             steps,
                         )?;
-                        refresh(alloc, node, steps);
+                        let after = extent_of(&node.left);
+                        refresh_after_put(alloc, node, before, after, base, steps);
                         return Ok(());
                     }
                     Way::Here => {
@@ -83,6 +92,7 @@ fn put_in<M: ShapeMut, C: Ledger>(
                         return Ok(());
                     }
                     Way::Right => {
+                        let before = extent_of(&node.right);
                         put_in(
                             alloc,
                             PartMut {
@@ -90,9 +100,11 @@ fn put_in<M: ShapeMut, C: Ledger>(
                             },
                             key,
                             val,
+                            base,
                             steps,
                         )?;
-                        refresh(alloc, node, steps);
+                        let after = extent_of(&node.right);
+                        refresh_after_put(alloc, node, before, after, base, steps);
                         return Ok(());
                     }
                     Way::Copy => {}

@@ -1,4 +1,4 @@
-use Rattle.std.proofs.Common.{rules, ◌≡◌, ◌+◌, ◌*◌, ◌<◌, ◌≤◌, length, subst, arith}
+use Rattle.std.proofs.Common.{rules, ◌≡◌, ◌+◌, ◌*◌, ◌<◌, ◌≤◌, length, sym, ap, ◌∙◌, subst, arith}
 use Rattle.map_model.specs.Entries.{set}
 use Rattle.map_model.proofs.Cuts.{set_sizes}
 use Rattle.map_model.proofs.Lengths.{length-set}
@@ -7,7 +7,7 @@ use Rattle.tree_shape.specs.Top.{contents}
 use Rattle.tree_change.proofs.Changed.{by_outcome}
 use Rattle.tree_change.proofs.Costs.{level_changed, copied_cost, sought_cost}
 use Rattle.tree_change.proofs.Owned.{top_block, top_node, left_is_shorter, right_is_shorter, left_is_lower, right_is_lower, sides_fit}
-use Rattle.tree_change.proofs.PutNodes.{put_left_fits, put_right_fits, put_left, put_right, put_here}
+use Rattle.tree_change.proofs.PutNodes.{put_left_fits, put_right_fits, put_left_fold, put_right_fold, put_left_size, put_right_size, put_left, put_right, put_here}
 use Rattle.tree_change.proofs.puts.+put_in.Goals as goal
 use Rattle.tree_change.proofs.puts.+put_in.Goals.{then-place-via-then-place, then-place-via-else-place+then-len-BLOCK, in-Empty, in-Block+in_default, in-Node+in-Some-get_mut+in-Copy, in-Node+in_default-get_mut}
 
@@ -20,8 +20,8 @@ put_in-requires g t c κs within =
     let shorter = left_is_shorter map node own in
     search rules
 
-pub refresh-requires-clause-fits : goal.refresh-requires-clause-fits
-refresh-requires-clause-fits g t c =
+pub refresh_after_put-requires-clause-fits : goal.refresh_after_put-requires-clause-fits
+refresh_after_put-requires-clause-fits g t c =
     let a = g.M.Augment.Augment in
     let map = c.args.part.tree.now in
     let node = c.in-Some-get_mut.node.now in
@@ -36,7 +36,7 @@ invariant_of-tree-in-Left g t c =
     let node = c.in-Some-get_mut.node.now in
     let own = top_node g.M.Leaf.Leaf.entries g.M.Key.Ord.cmp a.base_of a.unit_of a.combined g.M.Shape.BLOCK map node c.in-Node.owner c.tree.inside.top c.in-Some-get_mut.ensures.value c.in-Node.is c.tree.invariant c.tree.view_is in
     let way = c.in-Left.ensures.way in
-    let new = put_left g.met.M.Key.Ord.total g.met.M.Key.Key.exact g.M.Shape.lawful map node own c.args.key c.args.val c.put_in.new.part.0 c.refresh.new.node way c.in_ok-put_in-in-Left.ensures.entries c.refresh.ensures.node in
+    let new = put_left g.met.M.Key.Ord.total g.met.M.Key.Key.exact g.M.Shape.lawful map node own c.args.key c.args.val c.put_in.new.part.0 c.refresh_after_put.new.node way c.in_ok-put_in-in-Left.ensures.entries c.refresh_after_put.ensures.node in
     new.shape
 
 pub returns-in-Left-clause-entries : goal.returns-in-Left-clause-entries
@@ -46,7 +46,7 @@ returns-in-Left-clause-entries g t c =
     let node = c.in-Some-get_mut.node.now in
     let own = top_node g.M.Leaf.Leaf.entries g.M.Key.Ord.cmp a.base_of a.unit_of a.combined g.M.Shape.BLOCK map node c.in-Node.owner c.tree.inside.top c.in-Some-get_mut.ensures.value c.in-Node.is c.tree.invariant c.tree.view_is in
     let way = c.in-Left.ensures.way in
-    let new = put_left g.met.M.Key.Ord.total g.met.M.Key.Key.exact g.M.Shape.lawful map node own c.args.key c.args.val c.put_in.new.part.0 c.refresh.new.node way c.in_ok-put_in-in-Left.ensures.entries c.refresh.ensures.node in
+    let new = put_left g.met.M.Key.Ord.total g.met.M.Key.Key.exact g.M.Shape.lawful map node own c.args.key c.args.val c.put_in.new.part.0 c.refresh_after_put.new.node way c.in_ok-put_in-in-Left.ensures.entries c.refresh_after_put.ensures.node in
     new.entries_are
 
 pub returns-in-Left-clause-cost : goal.returns-in-Left-clause-cost
@@ -56,7 +56,7 @@ returns-in-Left-clause-cost g t c =
     let node = c.in-Some-get_mut.node.now in
     let own = top_node g.M.Leaf.Leaf.entries g.M.Key.Ord.cmp a.base_of a.unit_of a.combined g.M.Shape.BLOCK map node c.in-Node.owner c.tree.inside.top c.in-Some-get_mut.ensures.value c.in-Node.is c.tree.invariant c.tree.view_is in
     let level = level_changed node.left.height map.height g.M.Shape.BLOCK (left_is_lower map node own) in
-    omega (arith, level, c.in_ok-put_in-in-Left.ensures.cost, c.refresh.ensures.cost, c.in-Left.ensures.one_step)
+    omega (arith, level, c.in_ok-put_in-in-Left.ensures.cost, c.refresh_after_put.ensures.cost, c.in-Left.ensures.one_step)
 
 pub put_in-requires-in-Right : goal.put_in-requires-in-Right
 put_in-requires-in-Right g t c κs within =
@@ -67,8 +67,8 @@ put_in-requires-in-Right g t c κs within =
     let shorter = right_is_shorter map node own in
     search rules
 
-pub refresh-requires-in-Right-clause-fits : goal.refresh-requires-in-Right-clause-fits
-refresh-requires-in-Right-clause-fits g t c =
+pub refresh_after_put-requires-in-Right-clause-fits : goal.refresh_after_put-requires-in-Right-clause-fits
+refresh_after_put-requires-in-Right-clause-fits g t c =
     let a = g.M.Augment.Augment in
     let map = c.args.part.tree.now in
     let node = c.in-Some-get_mut.node.now in
@@ -83,7 +83,7 @@ invariant_of-tree-in-Right g t c =
     let node = c.in-Some-get_mut.node.now in
     let own = top_node g.M.Leaf.Leaf.entries g.M.Key.Ord.cmp a.base_of a.unit_of a.combined g.M.Shape.BLOCK map node c.in-Node.owner c.tree.inside.top c.in-Some-get_mut.ensures.value c.in-Node.is c.tree.invariant c.tree.view_is in
     let way = c.in-Right.ensures.way in
-    let new = put_right g.met.M.Key.Ord.total g.met.M.Key.Key.exact g.M.Shape.lawful map node own c.args.key c.args.val c.put_in-in-Right.new.part.0 c.refresh-in-Right.new.node way c.in_ok-put_in-in-Right.ensures.entries c.refresh-in-Right.ensures.node in
+    let new = put_right g.met.M.Key.Ord.total g.met.M.Key.Key.exact g.M.Shape.lawful map node own c.args.key c.args.val c.put_in-in-Right.new.part.0 c.refresh_after_put-in-Right.new.node way c.in_ok-put_in-in-Right.ensures.entries c.refresh_after_put-in-Right.ensures.node in
     new.shape
 
 pub returns-in-Right-clause-entries : goal.returns-in-Right-clause-entries
@@ -93,7 +93,7 @@ returns-in-Right-clause-entries g t c =
     let node = c.in-Some-get_mut.node.now in
     let own = top_node g.M.Leaf.Leaf.entries g.M.Key.Ord.cmp a.base_of a.unit_of a.combined g.M.Shape.BLOCK map node c.in-Node.owner c.tree.inside.top c.in-Some-get_mut.ensures.value c.in-Node.is c.tree.invariant c.tree.view_is in
     let way = c.in-Right.ensures.way in
-    let new = put_right g.met.M.Key.Ord.total g.met.M.Key.Key.exact g.M.Shape.lawful map node own c.args.key c.args.val c.put_in-in-Right.new.part.0 c.refresh-in-Right.new.node way c.in_ok-put_in-in-Right.ensures.entries c.refresh-in-Right.ensures.node in
+    let new = put_right g.met.M.Key.Ord.total g.met.M.Key.Key.exact g.M.Shape.lawful map node own c.args.key c.args.val c.put_in-in-Right.new.part.0 c.refresh_after_put-in-Right.new.node way c.in_ok-put_in-in-Right.ensures.entries c.refresh_after_put-in-Right.ensures.node in
     new.entries_are
 
 pub returns-in-Right-clause-cost : goal.returns-in-Right-clause-cost
@@ -103,10 +103,10 @@ returns-in-Right-clause-cost g t c =
     let node = c.in-Some-get_mut.node.now in
     let own = top_node g.M.Leaf.Leaf.entries g.M.Key.Ord.cmp a.base_of a.unit_of a.combined g.M.Shape.BLOCK map node c.in-Node.owner c.tree.inside.top c.in-Some-get_mut.ensures.value c.in-Node.is c.tree.invariant c.tree.view_is in
     let level = level_changed node.right.height map.height g.M.Shape.BLOCK (right_is_lower map node own) in
-    omega (arith, level, c.in_ok-put_in-in-Right.ensures.cost, c.refresh-in-Right.ensures.cost, c.in-Right.ensures.one_step)
+    omega (arith, level, c.in_ok-put_in-in-Right.ensures.cost, c.refresh_after_put-in-Right.ensures.cost, c.in-Right.ensures.one_step)
 
-pub refresh-requires-in-Here-clause-fits : goal.refresh-requires-in-Here-clause-fits
-refresh-requires-in-Here-clause-fits g t c =
+pub refresh-requires-clause-fits : goal.refresh-requires-clause-fits
+refresh-requires-clause-fits g t c =
     let a = g.M.Augment.Augment in
     let map = c.args.part.tree.now in
     let node = c.in-Some-get_mut.node.now in
@@ -119,7 +119,7 @@ invariant_of-tree-in-Here g t c =
     let map = c.args.part.tree.now in
     let node = c.in-Some-get_mut.node.now in
     let own = top_node g.M.Leaf.Leaf.entries g.M.Key.Ord.cmp a.base_of a.unit_of a.combined g.M.Shape.BLOCK map node c.in-Node.owner c.tree.inside.top c.in-Some-get_mut.ensures.value c.in-Node.is c.tree.invariant c.tree.view_is in
-    let new = put_here g.met.M.Key.Ord.total g.met.M.Key.Key.exact g.M.Shape.lawful map node own c.args.key c.args.val c.refresh-in-Here.new.node c.in-Here.ensures.way c.refresh-in-Here.ensures.node in
+    let new = put_here g.met.M.Key.Ord.total g.met.M.Key.Key.exact g.M.Shape.lawful map node own c.args.key c.args.val c.refresh.new.node c.in-Here.ensures.way c.refresh.ensures.node in
     new.shape
 
 pub returns-in-Here-clause-entries : goal.returns-in-Here-clause-entries
@@ -128,7 +128,7 @@ returns-in-Here-clause-entries g t c =
     let map = c.args.part.tree.now in
     let node = c.in-Some-get_mut.node.now in
     let own = top_node g.M.Leaf.Leaf.entries g.M.Key.Ord.cmp a.base_of a.unit_of a.combined g.M.Shape.BLOCK map node c.in-Node.owner c.tree.inside.top c.in-Some-get_mut.ensures.value c.in-Node.is c.tree.invariant c.tree.view_is in
-    let new = put_here g.met.M.Key.Ord.total g.met.M.Key.Key.exact g.M.Shape.lawful map node own c.args.key c.args.val c.refresh-in-Here.new.node c.in-Here.ensures.way c.refresh-in-Here.ensures.node in
+    let new = put_here g.met.M.Key.Ord.total g.met.M.Key.Key.exact g.M.Shape.lawful map node own c.args.key c.args.val c.refresh.new.node c.in-Here.ensures.way c.refresh.ensures.node in
     new.entries_are
 
 pub returns-in_err-tree-inside-clause-cost : goal.returns-in_err-tree-inside-clause-cost
@@ -221,17 +221,17 @@ part_some-tree-in-Some-get_mut-2 g t c = search rules
 pub invariant_of-tree-in-Break-branch-2 : goal.invariant_of-tree-in-Break-branch-2
 invariant_of-tree-in-Break-branch-2 g t c = search rules
 
+pub refresh_after_put-requires-clause-total : goal.refresh_after_put-requires-clause-total
+refresh_after_put-requires-clause-total g t c = search rules
+
 pub refresh-requires-clause-total : goal.refresh-requires-clause-total
 refresh-requires-clause-total g t c = search rules
-
-pub refresh-requires-in-Here-clause-total : goal.refresh-requires-in-Here-clause-total
-refresh-requires-in-Here-clause-total g t c = search rules
 
 pub invariant_of-tree-in-Break-branch-3 : goal.invariant_of-tree-in-Break-branch-3
 invariant_of-tree-in-Break-branch-3 g t c = search rules
 
-pub refresh-requires-in-Right-clause-total : goal.refresh-requires-in-Right-clause-total
-refresh-requires-in-Right-clause-total g t c = search rules
+pub refresh_after_put-requires-in-Right-clause-total : goal.refresh_after_put-requires-in-Right-clause-total
+refresh_after_put-requires-in-Right-clause-total g t c = search rules
 
 pub part_none-tree-in_default-get_mut : goal.part_none-tree-in_default-get_mut
 part_none-tree-in_default-get_mut g t c = search rules
@@ -296,3 +296,66 @@ invariant_of-tree-in-Break-branch-5 g t c =
 pub invariant_of-drop-2 : goal.invariant_of-drop-2
 invariant_of-drop-2 g t c =
     search rules
+
+pub refresh_after_put-requires-clause-fold : goal.refresh_after_put-requires-clause-fold
+refresh_after_put-requires-clause-fold g t c = λ grew alike.
+    let a = g.M.Augment.Augment in
+    let map = c.args.part.tree.now in
+    let node = c.in-Some-get_mut.node.now in
+    let own = top_node g.M.Leaf.Leaf.entries g.M.Key.Ord.cmp a.base_of a.unit_of a.combined g.M.Shape.BLOCK map node c.in-Node.owner c.tree.inside.top c.in-Some-get_mut.ensures.value c.in-Node.is c.tree.invariant c.tree.view_is in
+    let law = g.met.M.Augment.Augment in
+    let more : length node.left.entries < length c.put_in.new.part.0.entries = omega (arith, grew, c.extent_of-before.ensures.size, c.extent_of-after.ensures.size) in
+    rw c.requires.base (sym (put_left_fold g.met.M.Key.Ord.total g.met.M.Key.Key.exact g.M.Shape.lawful map node own c.args.key c.args.val law.monoid law.base_fits alike c.put_in.new.part.0 c.in_ok-put_in-in-Left.ensures.entries c.in-Left.ensures.way.0 more))
+
+pub refresh_after_put-requires-clause-size : goal.refresh_after_put-requires-clause-size
+refresh_after_put-requires-clause-size g t c = λ grew.
+    let a = g.M.Augment.Augment in
+    let map = c.args.part.tree.now in
+    let node = c.in-Some-get_mut.node.now in
+    let own = top_node g.M.Leaf.Leaf.entries g.M.Key.Ord.cmp a.base_of a.unit_of a.combined g.M.Shape.BLOCK map node c.in-Node.owner c.tree.inside.top c.in-Some-get_mut.ensures.value c.in-Node.is c.tree.invariant c.tree.view_is in
+    let more : length node.left.entries < length c.put_in.new.part.0.entries = omega (arith, grew, c.extent_of-before.ensures.size, c.extent_of-after.ensures.size) in
+    put_left_size g.met.M.Key.Ord.total g.met.M.Key.Key.exact g.M.Shape.lawful map node own c.args.key c.args.val c.put_in.new.part.0 c.in_ok-put_in-in-Left.ensures.entries more
+
+pub refresh_after_put-requires-clause-height : goal.refresh_after_put-requires-clause-height
+refresh_after_put-requires-clause-height g t c = λ same.
+    let a = g.M.Augment.Augment in
+    let map = c.args.part.tree.now in
+    let node = c.in-Some-get_mut.node.now in
+    let own = top_node g.M.Leaf.Leaf.entries g.M.Key.Ord.cmp a.base_of a.unit_of a.combined g.M.Shape.BLOCK map node c.in-Node.owner c.tree.inside.top c.in-Some-get_mut.ensures.value c.in-Node.is c.tree.invariant c.tree.view_is in
+    omega (arith, same, own.shape.height_is, c.extent_of-before.ensures.height, c.extent_of-after.ensures.height)
+
+pub refresh_after_put-requires-in-Right-clause-fold : goal.refresh_after_put-requires-in-Right-clause-fold
+refresh_after_put-requires-in-Right-clause-fold g t c = λ grew alike.
+    let a = g.M.Augment.Augment in
+    let map = c.args.part.tree.now in
+    let node = c.in-Some-get_mut.node.now in
+    let own = top_node g.M.Leaf.Leaf.entries g.M.Key.Ord.cmp a.base_of a.unit_of a.combined g.M.Shape.BLOCK map node c.in-Node.owner c.tree.inside.top c.in-Some-get_mut.ensures.value c.in-Node.is c.tree.invariant c.tree.view_is in
+    let law = g.met.M.Augment.Augment in
+    let more : length node.right.entries < length c.put_in-in-Right.new.part.0.entries = omega (arith, grew, c.extent_of-before-in-Right.ensures.size, c.extent_of-after-in-Right.ensures.size) in
+    rw c.requires.base (sym (put_right_fold g.met.M.Key.Ord.total g.met.M.Key.Key.exact g.M.Shape.lawful map node own c.args.key c.args.val law.monoid law.base_fits alike c.put_in-in-Right.new.part.0 c.in_ok-put_in-in-Right.ensures.entries c.in-Right.ensures.way.0 more))
+
+pub refresh_after_put-requires-in-Right-clause-size : goal.refresh_after_put-requires-in-Right-clause-size
+refresh_after_put-requires-in-Right-clause-size g t c = λ grew.
+    let a = g.M.Augment.Augment in
+    let map = c.args.part.tree.now in
+    let node = c.in-Some-get_mut.node.now in
+    let own = top_node g.M.Leaf.Leaf.entries g.M.Key.Ord.cmp a.base_of a.unit_of a.combined g.M.Shape.BLOCK map node c.in-Node.owner c.tree.inside.top c.in-Some-get_mut.ensures.value c.in-Node.is c.tree.invariant c.tree.view_is in
+    let more : length node.right.entries < length c.put_in-in-Right.new.part.0.entries = omega (arith, grew, c.extent_of-before-in-Right.ensures.size, c.extent_of-after-in-Right.ensures.size) in
+    put_right_size g.met.M.Key.Ord.total g.met.M.Key.Key.exact g.M.Shape.lawful map node own c.args.key c.args.val c.put_in-in-Right.new.part.0 c.in_ok-put_in-in-Right.ensures.entries more
+
+pub refresh_after_put-requires-in-Right-clause-height : goal.refresh_after_put-requires-in-Right-clause-height
+refresh_after_put-requires-in-Right-clause-height g t c = λ same.
+    let a = g.M.Augment.Augment in
+    let map = c.args.part.tree.now in
+    let node = c.in-Some-get_mut.node.now in
+    let own = top_node g.M.Leaf.Leaf.entries g.M.Key.Ord.cmp a.base_of a.unit_of a.combined g.M.Shape.BLOCK map node c.in-Node.owner c.tree.inside.top c.in-Some-get_mut.ensures.value c.in-Node.is c.tree.invariant c.tree.view_is in
+    omega (arith, same, own.shape.height_is, c.extent_of-before-in-Right.ensures.height, c.extent_of-after-in-Right.ensures.height)
+
+pub put_in_own_block-requires-clause-base : goal.put_in_own_block-requires-clause-base
+put_in_own_block-requires-clause-base g t c = c.requires.base
+
+pub put_in_own_block-requires-clause-folded : goal.put_in_own_block-requires-clause-folded
+put_in_own_block-requires-clause-folded g t c =
+    let a = g.M.Augment.Augment in
+    let own = top_block g.M.Leaf.Leaf.entries g.M.Key.Ord.cmp a.base_of a.unit_of a.combined g.M.Shape.BLOCK c.args.part.tree.now c.in-Some.block.now c.in-Block.owner c.tree.inside.top c.in-Some.ensures.value c.in-Block.is c.tree.invariant c.tree.view_is in
+    own.shape.fold_is
