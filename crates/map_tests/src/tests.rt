@@ -15,4 +15,5 @@ mod refusing;
 mod spans;
 mod sums;
 mod updated;
+mod versions;
 mod wholes;

@@ -16,6 +16,7 @@
 mod bridge;
 mod changes;
 mod counters;
+mod diff;
 mod ends;
 mod entries;
 mod lists;
@@ -29,4 +30,5 @@ mod same;
 mod updates;
 mod wholes;
 
+pub use entry_lists::Change;
 pub use map::{Iter, OrdMap};
