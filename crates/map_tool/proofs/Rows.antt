@@ -1,15 +1,15 @@
--- Commands in a row, cut in two, and puts into one register.
-use Rattle.std.proofs.Common.{◌≡◌, ℕ, zero, suc, ◌<◌, List, [], ◌∷◌, ◌++◌, length, refl, sym, ap, ap₂, ◌∙◌, append_assoc, arith}
+-- Commands in a row, cut in two, and puts into one register and look-ups in one.
+use Rattle.std.proofs.Common.{◌≡◌, ℕ, zero, suc, ◌<◌, List, [], ◌∷◌, ◌++◌, length, map, refl, sym, ap, ap₂, ◌∙◌, append_assoc, arith}
 use Rattle.std.specs.Prelude.{codes}
 use Rattle.std.specs.List.{AllByRecursion}
 use Rattle.std.specs.Ordering.{nat_cmp}
 use Rattle.std.proofs.lemmas.List.{get_or-set_same, length-set, set-get_or}
-use Rattle.map_model.specs.Entries.{set}
+use Rattle.map_model.specs.Entries.{lookup, set}
 use Rattle.map_model.specs.Operations.{after, puts}
 use Rattle.map_records.specs.declared.commands.MapCommand.{MapCommand}
-use Rattle.map_tool.specs.Effects.{map_after, map_reply}
+use Rattle.map_tool.specs.Effects.{found_line, map_after, map_reply}
 use Rattle.map_tool.specs.Registers.{Registers, register, with_register}
-use Rattle.map_tool.specs.Runs.{after_all, ok_lines, puts_into}
+use Rattle.map_tool.specs.Runs.{after_all, found_lines, gets_from, ok_lines, puts_into}
 use Rattle.put_runs.specs.Sizes.{sizes_after}
 use Rattle.script.specs.Lines.{line_of}
 use Rattle.script.specs.Replies.{replies}
@@ -58,3 +58,13 @@ replies-puts (e ∷ entries) rs d h =
     let same : register (with_register rs d m) d ≡ m = get_or-set_same rs d m [] h in
     let len : length (with_register rs d m) ≡ length rs = length-set rs d m in
     ap (λ rest. line_of (codes "ok") (length m ∷ []) ++ rest) (replies-puts entries (with_register rs d m) d (omega (arith, len)) ∙ ap (λ n. ok_lines (sizes_after n entries)) same)
+
+-- ---- look-ups in one register
+
+pub after_all_gets : (keys : List ℕ) (rs : Registers) (m : ℕ) → rs ≡ after_all rs (gets_from m keys)
+after_all_gets [] rs m = refl
+after_all_gets (k ∷ keys) rs m = after_all_gets keys rs m
+
+pub replies_gets : (keys : List ℕ) (rs : Registers) (m : ℕ) → replies map_reply map_after rs (gets_from m keys) ≡ found_lines (map (λ k. lookup nat_cmp (register rs m) k) keys)
+replies_gets [] rs m = refl
+replies_gets (k ∷ keys) rs m = ap (λ rest. found_line (lookup nat_cmp (register rs m) k) ++ rest) (replies_gets keys rs m)

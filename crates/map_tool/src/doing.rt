@@ -12,7 +12,8 @@ use script::{counted_line, line};
 use std::alloc::Global;
 use std::sync::ledger::Ledger;
 
-fn push_found(val: Option<u64>, text: &mut Vec<u8>) -> Result<(), NoMemory>
+/// Appends the reply of a look-up. A refusal leaves the text as it was.
+pub(crate) fn push_found(val: Option<u64>, text: &mut Vec<u8>) -> Result<(), NoMemory>
     ensures { MatchResult result (λ _. text.new.items ≡ text.old.items ++ found_line val) (λ _. text.new.items ≡ text.old.items) }
 {
     match val {

@@ -4,11 +4,12 @@ ghost use Rattle.std.specs.List.{AllByRecursion};
 ghost use Rattle.map_records.specs.MapRecords.{HasRegisters};
 ghost use Rattle.map_tool.specs.Effects.{map_after, map_reply};
 ghost use Rattle.map_tool.specs.Registers.{empty_registers, maps_of};
-ghost use Rattle.map_tool.specs.Runs.{after_all, puts_into};
+ghost use Rattle.map_tool.specs.Runs.{after_all, gets_from, puts_into};
 ghost use Rattle.script.specs.Replies.{replies};
 ghost use Rattle.aug_monoid.specs.Fresh.{IsFresh};
 
 use crate::command::map_command;
+use crate::gets::keys_asked;
 use crate::registers::Registers;
 use crate::runs::{entries_put, run_len};
 use aug_monoid::{NoMemory, Steps};
@@ -26,11 +27,14 @@ struct Run {
     text: Vec<u8>,
 }
 
-/// Shorter runs of puts are done one by one, and those into a register of fewer entries, since such a map stays in the caches.
+/// Shorter runs of puts are done one by one, and all commands of a register of fewer entries, since such a map stays in the caches.
 const FEW_PUTS: usize = 4096;
 
+/// Shorter runs of look-ups are done one by one.
+const FEW_GETS: usize = 256;
+
 // The register and the entries of a run of puts that is worth doing at once.
-fn long_run(
+fn long_puts(
     alloc: Global,
     registers: &Registers,
     run: &[MapCommand],
@@ -46,6 +50,27 @@ fn long_run(
     }
     match entries_put(alloc, *d, run)? {
         Some(entries) => Ok(Some((*d, entries))),
+        None => Ok(None),
+    }
+}
+
+// The register and the keys of a run of look-ups that is worth doing at once.
+fn long_gets(
+    alloc: Global,
+    registers: &Registers,
+    run: &[MapCommand],
+) -> Result<Option<(u8, Vec<u64>)>, NoMemory>
+    requires { AllByRecursion HasRegisters run.now }
+    ensures { IfOk result (λ found. IfSome found (λ gets. (gets.0 < 16) × (run.now ≡ gets_from gets.0 gets.1.items))) }
+{
+    let Some(MapCommand::Get { m, k: _ }) = run.first() else {
+        return Ok(None);
+    };
+    if run.len() < FEW_GETS || registers.at(*m).size() < FEW_PUTS as u64 {
+        return Ok(None);
+    }
+    match keys_asked(alloc, *m, run)? {
+        Some(keys) => Ok(Some((*m, keys))),
         None => Ok(None),
     }
 }
@@ -77,7 +102,7 @@ fn run_each<R: Threads + Sync, G: Gate, C: Ledger>(
     Ok(())
 }
 
-// Runs commands, all at once where they are a long run of puts.
+// Runs commands, all at once where they are a long run of puts or of look-ups.
 fn run_together<R: Threads + Sync, G: Gate, C: Ledger>(
     on: On<R, G>,
     alloc: Global,
@@ -89,13 +114,15 @@ fn run_together<R: Threads + Sync, G: Gate, C: Ledger>(
     ensures replies { OnOk result (run.new.text.items ≡ run.old.text.items ++ replies map_reply map_after (maps_of run.old.registers) commands.now) }
     ensures after { OnOk result (maps_of run.new.registers ≡ after_all (maps_of run.old.registers) commands.now) }
 {
-    match long_run(alloc, &run.registers, commands)? {
-        Some((number, entries)) => {
-            run.registers
-                .put_many(on, alloc, number, &entries, &mut run.text)
-        }
-        None => run_each(on, alloc, run, commands, steps),
+    if let Some((number, entries)) = long_puts(alloc, &run.registers, commands)? {
+        return run
+            .registers
+            .put_many(on, alloc, number, &entries, &mut run.text);
     }
+    if let Some((number, keys)) = long_gets(alloc, &run.registers, commands)? {
+        return run.registers.get_many(alloc, number, &keys, &mut run.text);
+    }
+    run_each(on, alloc, run, commands, steps)
 }
 
 // Runs commands in order, and answers their replies.

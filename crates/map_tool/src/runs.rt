@@ -1,4 +1,4 @@
-//! Puts into one register that stand in a row, done at once.
+//! Commands that stand in a row and are done at once, and puts into one register among them.
 ghost use Rattle.std.specs.Prelude.{◌≡◌, ◌<◌, ◌≤◌, ◌++◌, length, IfOk, IfSome, OnOk};
 ghost use Rattle.map_tool.specs.Effects.{map_after, map_reply};
 ghost use Rattle.map_tool.specs.Registers.{maps_of};
@@ -16,32 +16,38 @@ use std::marker::Sync;
 use std::mem;
 use std::thread::Threads;
 
-/// No more puts stand in a run, so that what is needed beside the map to do them stays small.
-const MOST_PUTS: usize = 65_536;
+/// No more commands stand in a run, so that what is needed beside the map to do them stays small.
+const MOST_AT_ONCE: usize = 65_536;
 
-/// Whether a command is a put into a register.
-fn is_put_into(command: &MapCommand, number: u8) -> bool {
-    match command {
-        MapCommand::Put { d, k: _, v: _ } => *d == number,
+/// Whether two commands put into one register, or look up in one.
+fn are_alike(first: &MapCommand, second: &MapCommand) -> bool {
+    match (first, second) {
+        (
+            MapCommand::Put { d, k: _, v: _ },
+            MapCommand::Put {
+                d: other,
+                k: _,
+                v: _,
+            },
+        ) => d == other,
+        (MapCommand::Get { m, k: _ }, MapCommand::Get { m: other, k: _ }) => m == other,
         _ => false,
     }
 }
 
-/// How many commands the first run has: puts into one register that stand in a row, or one other command.
+/// How many commands the first run has: puts into one register or look-ups in one that stand in a row, or one other command.
 pub(crate) fn run_len(commands: &[MapCommand]) -> usize
     requires { 0 < length commands.now }
     ensures some { 0 < result }
     ensures within { result ≤ length commands.now }
 {
-    let MapCommand::Put { d, k: _, v: _ } = &commands[0] else {
-        return 1;
-    };
-    let most = commands.len().min(MOST_PUTS);
+    let first = &commands[0];
+    let most = commands.len().min(MOST_AT_ONCE);
     let len = commands[..most]
         .iter()
-        .position(|command| !is_put_into(command, *d))
+        .position(|command| !are_alike(first, command))
         .unwrap_or(most);
-    len.max(1) // for the proof alone: the first is one of them
+    len.max(1)
 }
 
 /// The entries that commands put into a register; none where one is no put into it.

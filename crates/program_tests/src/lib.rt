@@ -10,6 +10,8 @@ mod faults;
 #[cfg(test)]
 mod largest;
 #[cfg(test)]
+mod many_gets;
+#[cfg(test)]
 mod many_puts;
 #[cfg(test)]
 mod plainly;

@@ -30,7 +30,7 @@ fn entries<R: Abort>(rt: &R, alloc: Global) -> Vec<(u64, u64)> {
     entries
 }
 
-fn push<R: Abort>(rt: &R, text: &mut Vec<u8>, word: &str, numbers: &[u64]) {
+pub(crate) fn push<R: Abort>(rt: &R, text: &mut Vec<u8>, word: &str, numbers: &[u64]) {
     line(text, word, numbers).expect(rt, "memory");
 }
 
@@ -64,7 +64,7 @@ fn replies_to<R: Abort>(rt: &R, alloc: Global, entries: &[(u64, u64)]) -> Vec<u8
 }
 
 /// What the program writes on two workers, which share whatever has more than one part.
-fn written<R: Abort + Threads + Wait + Sync, G: Gate>(
+pub(crate) fn written<R: Abort + Threads + Wait + Sync, G: Gate>(
     rt: &R,
     alloc: Global,
     input: Vec<u8>,
