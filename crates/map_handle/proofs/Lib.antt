@@ -1,3 +1,4 @@
 pub mod Combined
+pub mod Found
 pub mod Laying
 mod Values

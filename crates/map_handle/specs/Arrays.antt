@@ -1,18 +1,26 @@
 -- Many keys at once.
-use Rattle.std.specs.Prelude.{ℕ, List, length, take, drop, map, min, ◌++◌}
+use Rattle.std.specs.Prelude.{ℕ, List, Option, length, take, drop, map, min, ◌++◌}
 use Rattle.std.specs.Option.{option_map_or}
 use Rattle.std.specs.Ordering.{nat_cmp}
 use Rattle.map_model.specs.Entries.{lookup}
 use Rattle.map_model.specs.Operations.{build}
 use Rattle.map_model.specs.SetOperations.{difference}
 
+-- a value that may be there, or 0
+abbrev pub value_or_zero : Option ℕ → ℕ
+value_or_zero found = option_map_or (λ val. val) found 0
+
+-- 1 where a value is there, else 0
+abbrev pub one_if_some : Option ℕ → ℕ
+one_if_some found = option_map_or (λ _. 1) found 0
+
 -- the value at a key, or 0
 abbrev pub value_at : List (ℕ × ℕ) → ℕ → ℕ
-value_at m key = option_map_or (λ val. val) (lookup nat_cmp m key) 0
+value_at m key = value_or_zero (lookup nat_cmp m key)
 
 -- 1 where the map has the key, else 0
 abbrev pub presence_at : List (ℕ × ℕ) → ℕ → ℕ
-presence_at m key = option_map_or (λ _. 1) (lookup nat_cmp m key) 0
+presence_at m key = one_if_some (lookup nat_cmp m key)
 
 -- both for each of some keys
 abbrev pub found_at : List (ℕ × ℕ) → List ℕ → List ℕ × List ℕ

@@ -4,7 +4,7 @@ ghost use Rattle.std.specs.List.{zip};
 ghost use Rattle.std.specs.Option.{option_map};
 ghost use Rattle.std.specs.Ordering.{nat_cmp};
 ghost use Rattle.loose.specs.Statuses.{Answers, Becomes, into};
-ghost use Rattle.map_handle.specs.Arrays.{found_at, presence_at, value_at, without};
+ghost use Rattle.map_handle.specs.Arrays.{found_at, one_if_some, presence_at, value_at, value_or_zero, without};
 ghost use Rattle.map_model.specs.Operations.{after, build, puts};
 
 use crate::handle::{Handle, is_open, keep, take};
@@ -116,7 +116,8 @@ fn rest_of(alloc: Global, kept: &Inner, keys: &[u64]) -> Result<OrdMap<SumMax<u6
     kept.map.difference(alloc, &gone)
 }
 
-/// For each key its value and 1, or 0 and 0 where the map lacks it, in O(m log n).
+/// For each key its value and 1, or 0 and 0 where the map lacks it, in O(m log n), and for many keys in a fraction of the time of as many
+/// calls of `get`.
 pub fn get_many(
     alloc: Global,
     map: &mut Handle,
@@ -140,7 +141,32 @@ pub fn get_many(
     OK
 }
 
+// Writes what stands at keys, which go down the map together, or one after another where memory is short.
 fn write_found(alloc: Global, kept: &Inner, keys: &[u64], vals: &mut [u64], present: &mut [u8])
+    requires vals { length vals.old ≡ length keys.now }
+    requires present { length present.old ≡ length keys.now }
+    ensures vals { vals.new ≡ map (value_at kept.now) keys.now }
+    ensures present { present.new ≡ map (presence_at kept.now) keys.now }
+{
+    match kept.map.get_many(alloc, keys) {
+        Ok(found) => write_all_found(&found, vals, present),
+        Err(_) => write_each(alloc, kept, keys, vals, present),
+    }
+}
+
+fn write_all_found(found: &[Option<u64>], vals: &mut [u64], present: &mut [u8])
+    requires vals { length vals.old ≡ length found.now }
+    requires present { length present.old ≡ length found.now }
+    ensures vals { vals.new ≡ map value_or_zero found.now }
+    ensures present { present.new ≡ map one_if_some found.now }
+{
+    for (i, val) in found.iter().enumerate() {
+        vals[i] = val.unwrap_or(0);
+        present[i] = u8::from(val.is_some());
+    }
+}
+
+fn write_each(alloc: Global, kept: &Inner, keys: &[u64], vals: &mut [u64], present: &mut [u8])
     requires vals { length vals.old ≡ length keys.now }
     requires present { length present.old ≡ length keys.now }
     ensures vals { vals.new ≡ map (value_at kept.now) keys.now }

@@ -1,6 +1,6 @@
 use Rattle.std.proofs.Common.{◌≡◌, map, take}
 use Rattle.map_handle.specs.Arrays.{presence_at, value_at}
-use Rattle.map_handle.proofs.arrays.write_found.Given as goal
+use Rattle.map_handle.proofs.arrays.write_each.Given as goal
 
 abbrev pub invariant-loop-i : goal.invariant-loop-i
 invariant-loop-i l = record {
