@@ -1,9 +1,9 @@
 //! The map types, named by their augment, leaf and block size.
-use crate::cursor::Cursor as ShapedCursor;
 use crate::joins::{Exposed as ShapedExposed, Parts as ShapedParts};
 use crate::map::Map as ShapedMap;
 use crate::shapes::{Coded, Plain};
 use tree_shape::Of;
+use tree_walk::Cursor as ShapedCursor;
 
 /// A persistent ordered map with the fold of its entries, in blocks of `B` to `2 * B` entries.
 pub type Map<A, L, const B: usize> = ShapedMap<Of<A, L, B>>;

@@ -10,19 +10,17 @@
 //!
 //! Operations on whole maps fork where the cut allows it: each is a work of `bulk_passes`, `bulk_ops` or `bulk_changes`, handed to
 //! `divide`. Its twin, whose name ends in `_alone`, hands it to `divide_alone`, and asks nothing about threads. `sorted_lists` sorts
-//! pairs for it; the calls on single keys, on parts and on ranges stand on `tree_entry`, `tree_change`, `tree_cut`, `tree_join` and
-//! `tree_query`, all over the trees of `tree_shape`.
+//! pairs for it; the calls on single keys, on parts and on ranges stand on `tree_entry`, `tree_change`, `tree_cut`, `tree_join`,
+//! `tree_query`, `tree_many` and `tree_walk`, all over the trees of `tree_shape`.
 //!
 //! Tests: `map_tests`, `work_tests`. Wrong bodies: here.
 #![tactic(auto)]
 
 mod aliases;
 mod alone;
-mod back;
 mod bulk;
 mod changes;
 mod cross;
-mod cursor;
 mod entries;
 mod finding;
 mod given_up;
@@ -31,9 +29,9 @@ mod listing;
 mod many;
 mod map;
 mod queries;
-mod seat;
 pub mod shaped;
 mod shapes;
+mod walks;
 
 pub use aliases::{CodedMap, Cursor, Exposed, Map, Parts, PlainMap};
 pub use bulk_changes::IntoEntries;

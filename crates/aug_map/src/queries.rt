@@ -5,11 +5,11 @@ ghost use Rattle.map_model.specs.Fold.{aug_filter, fold_of, project, range_fold}
 ghost use Rattle.map_model.specs.Parts.{left_of, next, prev, rank, right_of, select, slice};
 
 use crate::map::Map;
-use crate::seat::is_key_at;
 use aug_monoid::{AugTest, Augment, NoMemory, Project, Steps};
 use std::alloc::Global;
 use std::sync::ledger::Ledger;
 use tree_shape::Shape;
+use tree_walk::is_key_at;
 
 impl<M: Shape> Map<M> {
     /// The fold of the entries with keys at most `key`, in at most `8 * height + 16 * B` steps. It takes no memory, and refuses

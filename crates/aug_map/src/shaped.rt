@@ -1,8 +1,8 @@
 //! The types over one shape, for code that is generic in the shape of its maps.
-pub use crate::cursor::Cursor;
 pub use crate::joins::{Exposed, Parts};
 pub use crate::map::Map;
 pub use crate::shapes::{Coded, Plain};
 pub use bulk_changes::{IntoShape, SyncIntoShape};
 pub use tree_change::ShapeMut;
 pub use tree_shape::{Of, Shape, SyncShape};
+pub use tree_walk::Cursor;

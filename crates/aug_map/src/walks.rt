@@ -1,0 +1,27 @@
+//! Walks over maps.
+ghost use Rattle.std.specs.Prelude.{◌≡◌, slice_range};
+
+use crate::map::Map;
+use std::alloc::Global;
+use tree_shape::Shape;
+use tree_walk::Cursor;
+
+impl<M: Shape> Map<M> {
+    /// Goes over the entries in the order of their keys: one item an entry, a share of it or a refusal of that share. It keeps the
+    /// allocator for the shares, and takes no memory itself. An entry takes O(1), and the first one of a block O(log n) in a map
+    /// of n entries. From the back, by `next_back` or `rev`, the last one of a block takes O(log n), and so does an entry between
+    /// two blocks; others take O(1) where a block is a plain vector, and time linear in the block's size where it is coded.
+    pub fn cursor(&self, alloc: Global) -> Cursor<'_, M>
+        ensures { result ≡ self.now.entries }
+    {
+        self.cursor_between(alloc, 0, self.tree.size())
+    }
+
+    /// Goes over the entries at the places from `from` up to but without `to`, counted from 0, as `cursor` does; over none where
+    /// `from` is not below `to`. Places past the last entry have none.
+    pub fn cursor_between(&self, alloc: Global, from: u64, to: u64) -> Cursor<'_, M>
+        ensures { result ≡ slice_range self.now.entries from to }
+    {
+        tree_walk::cursor_between(alloc, &self.tree, from, to)
+    }
+}

@@ -1,0 +1,78 @@
+//! Where an entry stands in a tree.
+ghost use Rattle.std.specs.Prelude.{◌≡◌, ◌+◌, ◌<◌, ◌++◌, List, length, drop, take, slice_get, IfSome};
+ghost use Rattle.std.specs.Ordering.{is_eq};
+ghost use Rattle.tree_walk.specs.Seats.{IsSeat, IsSeatBehind, led_by};
+
+use aug_monoid::{Key, Leaf, Steps};
+use std::sync::ledger::Ledger;
+use tree_shape::{Look, Shape, Tree};
+
+/// Where an entry stands: in a node, or in a leaf behind others. A leaf comes with the entry that follows its last, if there is
+/// one.
+#[derive(Drop)]
+pub(crate) enum Seat<'a, K, V, L> {
+    Entry {
+        key: &'a K,
+        val: &'a V,
+    },
+    Inside {
+        leaf: &'a L,
+        at: u64,
+        next: Option<(&'a K, &'a V)>,
+    },
+}
+
+/// Where the entry behind the first `at` entries stands, in a tree that an entry may follow.
+pub(crate) fn find_seat<'a, M: Shape>(
+    tree: &'a Tree<M>,
+    at: u64,
+    after: Option<(&'a M::Key, &'a M::Val)>,
+) -> Seat<'a, M::Key, M::Val, M::Leaf>
+    requires { at < length tree.now.entries }
+    ensures ahead { (more : List (M.Key × M.Val)) → IsSeat M.Leaf.entries (drop at tree.now.entries ++ led_by after.entry more) result }
+    ensures behind { IsSeatBehind M.Leaf.entries (take at tree.now.entries) result }
+{
+    match tree.look() {
+        Look::Empty => unreachable!(),
+        Look::Block { leaf } => Seat::Inside {
+            leaf,
+            at,
+            next: after,
+        },
+        Look::Node {
+            left,
+            key,
+            val,
+            right,
+        } => {
+            let before = left.size();
+            if at < before {
+                find_seat(left, at, Some((key, val)))
+            } else if at == before {
+                Seat::Entry { key, val }
+            } else {
+                find_seat(right, at - before - 1, after)
+            }
+        }
+    }
+}
+
+/// Whether the entry behind the first `at` entries has a key, in one step and O(log n) time.
+pub fn is_key_at<M: Shape, C: Ledger>(
+    tree: &Tree<M>,
+    at: u64,
+    key: &M::Key,
+    steps: &mut Steps<C>,
+) -> bool
+    requires { at < length tree.now.entries }
+    ensures value { IfSome (slice_get tree.now.entries at) (λ e. result ≡ is_eq (M.Key.cmp e.0 key.now)) }
+    ensures cost { steps.new ≡ steps.old + 1 }
+{
+    match find_seat(tree, at, None) {
+        Seat::Entry { key: there, .. } => there.order(key, steps).is_eq(),
+        Seat::Inside { leaf, at, .. } => match leaf.get_at(at) {
+            Some(entry) => entry.key().order(key, steps).is_eq(),
+            None => unreachable!(),
+        },
+    }
+}
