@@ -1,0 +1,49 @@
+//! Least numbers of changes between stations, by a graph.
+
+use anyhow::Result;
+use aug_monoid::Share;
+use fork_join::{Cut, FreeGate};
+use graph_snap::{Edge, Graph, Reached};
+use std::alloc::Global;
+use std::marker::Sync;
+use std::thread::Threads;
+
+/// Lines between the stations 1 to 6, each way.
+const LINES: &[(u64, u64)] = &[(1, 2), (2, 3), (3, 4), (4, 5), (5, 6), (1, 5)];
+
+// The two edges of each line.
+fn both_ways(alloc: Global, lines: &[(u64, u64)]) -> Result<Vec<Edge>> {
+    let mut edges = Vec::new(alloc);
+    for &(from, to) in lines {
+        edges.push(Edge { from, to })?;
+        edges.push(Edge { from: to, to: from })?;
+    }
+    Ok(edges)
+}
+
+// How far a vertex is, where it was reached.
+fn distance(reached: &[Reached], vertex: u64) -> Option<u64> {
+    reached
+        .iter()
+        .find(|one| one.vertex == vertex)
+        .map(|one| one.distance)
+}
+
+/// How many lines one takes from station 1 to station 6, and how many when a line is closed.
+pub(crate) fn page<R: Threads + Sync>(rt: &R, alloc: Global) -> Result<String> {
+    let cut = Cut::new(1, 1024);
+    let edges = both_ways(alloc, LINES)?;
+    let net = Graph::new().add_edges(rt, alloc, &FreeGate, cut, &edges)?;
+    let closed = both_ways(alloc, &[(1, 5)])?;
+    let today = net
+        .share(alloc)?
+        .cut_edges(rt, alloc, &FreeGate, cut, &closed)?;
+    let usual = distance(&net.bfs_alone(alloc, 1)?, 6);
+    let now = distance(&today.bfs_alone(alloc, 1)?, 6);
+    let text = format!(in alloc;
+        "from 1 to 6: {usual:?} lines, and {now:?} while the one from 1 to 5 is closed\nneighbours of 5: {} and {}\n",
+        net.degree(alloc, 5)?,
+        today.degree(alloc, 5)?
+    )?;
+    Ok(text)
+}

@@ -1,0 +1,50 @@
+//! A search over ten documents, by an inverted index.
+
+use anyhow::{Result, bail};
+use fork_join::{Cut, FreeGate};
+use inverted_index::{Doc, Index, Term};
+use std::alloc::Global;
+use std::marker::Sync;
+use std::thread::Threads;
+
+/// Ten lines of a notebook.
+const NOTES: &[&[u8]] = &[
+    b"Apples and pears, baked with honey",
+    b"Bread: flour, water, salt, and a day",
+    b"Honey cake with almonds, and more honey",
+    b"Pear tart, almonds on top",
+    b"Salt lemons in a jar",
+    b"Apple cake with cinnamon",
+    b"Almond bread with honey",
+    b"Lemon cake, flour and honey",
+    b"Water, lemon, mint",
+    b"Baked apples without honey",
+];
+
+// The term of a word.
+fn term(alloc: Global, word: &[u8]) -> Result<Term> {
+    match Term::of(alloc, word) {
+        Ok(term) => Ok(term),
+        Err(_) => bail!("no term"),
+    }
+}
+
+/// Which notes have both of two words, one and not another, and one most often.
+pub(crate) fn page<R: Threads + Sync>(rt: &R, alloc: Global) -> Result<String> {
+    let cut = Cut::new(1, 1024);
+    let mut docs = Vec::new(alloc);
+    for (number, text) in (1u64..).zip(NOTES) {
+        docs.push(Doc { doc: number, text })?;
+    }
+    let added = Index::new().add_docs(rt, alloc, &FreeGate, cut, &docs)?;
+    let index = added.index;
+    let honey = term(alloc, b"honey")?;
+    let cake = term(alloc, b"cake")?;
+    let best = index.top(alloc, 3, &honey)?;
+    let without = index.without(rt, alloc, &FreeGate, cut, &cake, &honey)?;
+    let both = index.all_of(rt, alloc, &FreeGate, cut, &[honey, cake])?;
+    let text = format!(in alloc;
+        "honey and cake: {both:?}\ncake without honey: {without:?}\nmost honey: {best:?}\n"
+    )?;
+    Ok(text)
+}
