@@ -11,6 +11,9 @@ use std::alloc::Global;
 
 impl<A: Augment> OrdMap<A> {
     /// Removes all entries: in O(n) where no other map shares them, and in less by what others share. It takes no memory.
+    ///
+    ///     let mut map = Sums::from_pairs(alloc, &[(1, 10), (2, 20)])?;
+    ///     map.clear();     // map is []
     pub fn clear(&mut self)
         ensures { self.new ≡ [] }
     {
@@ -19,6 +22,9 @@ impl<A: Augment> OrdMap<A> {
 
     /// Removes keys; those that the map hasn't change nothing. For k keys it takes O(k log n). After a refusal the map is as it
     /// was.
+    ///
+    ///     let mut map = Sums::from_pairs(alloc, &[(1, 10), (2, 20)])?;
+    ///     map.remove_all(alloc, &[3, 1])?;     // map is [(2, 20)]
     pub fn remove_all(&mut self, alloc: Global, keys: &[A::Key]) -> Result<(), NoMemory>
         ensures entries { IfOk result (λ _. self.new ≡ after A.Key.cmp self.old (dels keys.now)) }
         ensures kept { OnErr result (self.new ≡ self.old) }
@@ -30,7 +36,8 @@ impl<A: Augment> OrdMap<A> {
     /// Takes the entries with keys from `lo` to `hi`, both included, out of the map, and answers them as a map of their own. For k
     /// such entries it takes O(k log(n / k + 1)). After a refusal the map is as it was.
     ///
-    ///     let summer = prices.extract_range(alloc, &june, &august)?;
+    ///     let mut map = Sums::from_pairs(alloc, &[(1, 10), (2, 20), (3, 30)])?;
+    ///     let part = map.extract_range(alloc, &1, &2)?;     // part is [(1, 10), (2, 20)], map is [(3, 30)]
     pub fn extract_range(
         &mut self,
         alloc: Global,

@@ -11,7 +11,9 @@ impl<A: Augment<Val: PartialEq>> OrdMap<A> {
     /// What has changed from this map to a newer one, in the order of the keys: the keys that came, that went, and that have another
     /// value. It lists both maps, so it takes O(m + n) time and memory for maps of m and n entries, however few have changed.
     ///
-    ///     for change in before.diff(alloc, &now)? { .. }     // Change::Added, Change::Removed or Change::Updated
+    ///     let map = Sums::from_pairs(alloc, &[(1, 10)])?;
+    ///     let newer = Sums::from_pairs(alloc, &[(1, 11), (2, 20)])?;
+    ///     map.diff(alloc, &newer)?     // [Updated { key: 1, old: 10, new: 11 }, Added { key: 2, val: 20 }]
     pub fn diff(
         &self,
         alloc: Global,

@@ -11,7 +11,8 @@ impl<A: Augment> OrdMap<A> {
     /// Takes the entry with the least key out of the map, in O(log n); none exactly where there are no entries. After a refusal the
     /// map is as it was.
     ///
-    ///     while let Some((key, val)) = map.pop_first(alloc)? { .. }     // keys rise
+    ///     let mut map = Sums::from_pairs(alloc, &[(1, 10), (2, 20)])?;
+    ///     let entry = map.pop_first(alloc)?;     // entry is Some((1, 10)), map is [(2, 20)]
     pub fn pop_first(&mut self, alloc: Global) -> Result<Option<(A::Key, A::Val)>, NoMemory>
         ensures value { IfOk result (λ entry. entry ≡ select self.old 0) }
         ensures rest { IfOk result (λ _. self.new ≡ without_first self.old) }
@@ -27,6 +28,9 @@ impl<A: Augment> OrdMap<A> {
 
     /// Takes the entry with the greatest key out of the map, in O(log n); none exactly where there are no entries. After a refusal
     /// the map is as it was.
+    ///
+    ///     let mut map = Sums::from_pairs(alloc, &[(1, 10), (2, 20)])?;
+    ///     let entry = map.pop_last(alloc)?;     // entry is Some((2, 20)), map is [(1, 10)]
     pub fn pop_last(&mut self, alloc: Global) -> Result<Option<(A::Key, A::Val)>, NoMemory>
         ensures value { IfOk result (λ entry. entry ≡ last self.old) }
         ensures rest { IfOk result (λ _. self.new ≡ without_last self.old) }

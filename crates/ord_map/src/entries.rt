@@ -15,8 +15,8 @@ use std::sync::ledger::Blank;
 impl<A: Augment> OrdMap<A> {
     /// The value at a key, if it is there, in O(log n).
     ///
-    ///     map.insert(alloc, 1, 10)?;
-    ///     map.get(alloc, &1)?     // Some(10)
+    ///     let map = Sums::from_pairs(alloc, &[(1, 10), (2, 20)])?;
+    ///     map.get(alloc, &2)?     // Some(20)
     pub fn get(&self, alloc: Global, key: &A::Key) -> Result<Option<A::Val>, NoMemory>
         ensures value { IfOk result (λ val. val ≡ lookup A.Key.cmp self.now key.now) }
         ensures succeeds { A.Key.never_refuses → A.Val.never_refuses → IsOk result }
@@ -25,6 +25,9 @@ impl<A: Augment> OrdMap<A> {
     }
 
     /// Whether the key is there, in O(log n). It makes a share of the key's value, and refuses where that refuses.
+    ///
+    ///     let map = Sums::from_pairs(alloc, &[(1, 10), (2, 20)])?;
+    ///     map.contains_key(alloc, &3)?     // false
     pub fn contains_key(&self, alloc: Global, key: &A::Key) -> Result<bool, NoMemory>
         ensures value { IfOk result (λ yes. yes ≡ is_some (lookup A.Key.cmp self.now key.now)) }
         ensures succeeds { A.Key.never_refuses → A.Val.never_refuses → IsOk result }
@@ -33,6 +36,9 @@ impl<A: Augment> OrdMap<A> {
     }
 
     /// The value at a key, or `default` where the key is not there, in O(log n).
+    ///
+    ///     let map = Sums::from_pairs(alloc, &[(1, 10), (2, 20)])?;
+    ///     map.get_or(alloc, &3, 7)?     // 7
     pub fn get_or(&self, alloc: Global, key: &A::Key, default: A::Val) -> Result<A::Val, NoMemory>
         ensures value { IfOk result (λ val. val ≡ unwrap_or (lookup A.Key.cmp self.now key.now) default) }
         ensures succeeds { A.Key.never_refuses → A.Val.never_refuses → IsOk result }
@@ -41,6 +47,9 @@ impl<A: Augment> OrdMap<A> {
     }
 
     /// The entry with the least key, in O(log n); none exactly where there are no entries.
+    ///
+    ///     let map = Sums::from_pairs(alloc, &[(1, 10), (2, 20)])?;
+    ///     map.first(alloc)?     // Some((1, 10))
     pub fn first(&self, alloc: Global) -> Result<Option<(A::Key, A::Val)>, NoMemory>
         ensures value { IfOk result (λ entry. entry ≡ select self.now 0) }
         ensures succeeds { A.Key.never_refuses → A.Val.never_refuses → IsOk result }
@@ -49,6 +58,9 @@ impl<A: Augment> OrdMap<A> {
     }
 
     /// The entry with the greatest key, in O(log n); none exactly where there are no entries.
+    ///
+    ///     let map = Sums::from_pairs(alloc, &[(1, 10), (2, 20)])?;
+    ///     map.last(alloc)?     // Some((2, 20))
     pub fn last(&self, alloc: Global) -> Result<Option<(A::Key, A::Val)>, NoMemory>
         ensures value { IfOk result (λ entry. entry ≡ last self.now) }
         ensures succeeds { A.Key.never_refuses → A.Val.never_refuses → IsOk result }
@@ -57,6 +69,9 @@ impl<A: Augment> OrdMap<A> {
     }
 
     /// The entry at a place, counted from 0, in O(log n); none exactly where there are at most `at` entries.
+    ///
+    ///     let map = Sums::from_pairs(alloc, &[(1, 10), (2, 20)])?;
+    ///     map.select(alloc, 1)?     // Some((2, 20))
     pub fn select(&self, alloc: Global, at: u64) -> Result<Option<(A::Key, A::Val)>, NoMemory>
         ensures value { IfOk result (λ entry. entry ≡ select self.now at) }
         ensures succeeds { A.Key.never_refuses → A.Val.never_refuses → IsOk result }
@@ -65,6 +80,9 @@ impl<A: Augment> OrdMap<A> {
     }
 
     /// How many keys are less than `key`, in O(log n). It takes no memory.
+    ///
+    ///     let map = Sums::from_pairs(alloc, &[(1, 10), (2, 20)])?;
+    ///     map.rank(&2)     // 1
     pub fn rank(&self, key: &A::Key) -> u64
         ensures { result ≡ rank A.Key.cmp self.now key.now }
     {
@@ -72,6 +90,9 @@ impl<A: Augment> OrdMap<A> {
     }
 
     /// How many keys are at most `key`, in O(log n). It takes no memory.
+    ///
+    ///     let map = Sums::from_pairs(alloc, &[(1, 10), (2, 20)])?;
+    ///     map.count_to(&2)     // 2
     pub fn count_to(&self, key: &A::Key) -> u64
         ensures { result ≡ length (left_of A.Key.cmp self.now key.now) }
     {
@@ -79,6 +100,9 @@ impl<A: Augment> OrdMap<A> {
     }
 
     /// The entry with the least key greater than `key`, in O(log n); none exactly where no key is greater.
+    ///
+    ///     let map = Sums::from_pairs(alloc, &[(1, 10), (2, 20)])?;
+    ///     map.next(alloc, &1)?     // Some((2, 20))
     pub fn next(&self, alloc: Global, key: &A::Key) -> Result<Option<(A::Key, A::Val)>, NoMemory>
         ensures value { IfOk result (λ entry. entry ≡ next A.Key.cmp self.now key.now) }
         ensures succeeds { A.Key.never_refuses → A.Val.never_refuses → IsOk result }
@@ -87,6 +111,9 @@ impl<A: Augment> OrdMap<A> {
     }
 
     /// The entry with the greatest key less than `key`, in O(log n); none exactly where no key is less.
+    ///
+    ///     let map = Sums::from_pairs(alloc, &[(1, 10), (2, 20)])?;
+    ///     map.prev(alloc, &2)?     // Some((1, 10))
     pub fn prev(&self, alloc: Global, key: &A::Key) -> Result<Option<(A::Key, A::Val)>, NoMemory>
         ensures value { IfOk result (λ entry. entry ≡ prev A.Key.cmp self.now key.now) }
         ensures succeeds { A.Key.never_refuses → A.Val.never_refuses → IsOk result }

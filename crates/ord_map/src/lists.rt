@@ -8,6 +8,9 @@ use std::alloc::Global;
 
 impl<A: Augment> OrdMap<A> {
     /// The keys in their order, in O(n).
+    ///
+    ///     let map = Sums::from_pairs(alloc, &[(1, 10), (2, 20)])?;
+    ///     map.keys(alloc)?     // [1, 2]
     pub fn keys(&self, alloc: Global) -> Result<Vec<A::Key>, NoMemory>
         ensures { IfOk result (λ keys. keys.items ≡ keys_of self.now) }
     {
@@ -20,6 +23,9 @@ impl<A: Augment> OrdMap<A> {
     }
 
     /// The values in the order of their keys, in O(n).
+    ///
+    ///     let map = Sums::from_pairs(alloc, &[(1, 10), (2, 20)])?;
+    ///     map.values(alloc)?     // [10, 20]
     pub fn values(&self, alloc: Global) -> Result<Vec<A::Val>, NoMemory>
         ensures { IfOk result (λ vals. vals.items ≡ values_of self.now) }
     {

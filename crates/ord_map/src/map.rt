@@ -13,6 +13,9 @@ use std::marker::Model;
 pub type Iter<'a, A> = Cursor<'a, Plain<A>>;
 
 /// A persistent ordered map with the fold of its entries.
+///
+/// In the examples of its calls, which `map_examples` proves, `Sums` is `OrdMap<SumMax<u64>>`, `AtLeast { least: 20 }` tests whether
+/// a value is at least 20, and `Largest` makes the largest value.
 pub struct OrdMap<A: Augment> {
     pub(crate) map: PlainMap<A>,
 }
@@ -34,6 +37,8 @@ impl<A: Augment> Drop for OrdMap<A> {
 
 impl<A: Augment> OrdMap<A> {
     /// The map with no entries, in O(1). It takes no memory.
+    ///
+    ///     Sums::new()     // []
     pub fn new() -> OrdMap<A>
         ensures { result ≡ [] }
     {
@@ -43,6 +48,9 @@ impl<A: Augment> OrdMap<A> {
     }
 
     /// How many entries there are, in O(1).
+    ///
+    ///     let map = Sums::from_pairs(alloc, &[(1, 10), (2, 20)])?;
+    ///     map.len()     // 2
     pub fn len(&self) -> u64
         ensures value { result ≡ length self.now }
         ensures fits { result < 2 ^ 60 }
@@ -52,6 +60,8 @@ impl<A: Augment> OrdMap<A> {
     }
 
     /// Whether there are no entries, in O(1).
+    ///
+    ///     Sums::new().is_empty()     // true
     pub fn is_empty(&self) -> bool
         ensures { IsTrue result ↔ (self.now ≡ []) }
     {
@@ -59,6 +69,9 @@ impl<A: Augment> OrdMap<A> {
     }
 
     /// The fold of all entries, which is stored, in O(1); none exactly where there are no entries.
+    ///
+    ///     let map = Sums::from_pairs(alloc, &[(1, 10), (2, 20)])?;
+    ///     map.fold().map(|totals| totals.sum)     // Some(30)
     pub fn fold(&self) -> Option<&A::Aug>
         ensures none { IsNone result ↔ (self.now ≡ []) }
         ensures fold { IfSome result (λ aug. aug.now ≡ fold_of A.base_of A.unit_of A.combined self.now) }
@@ -69,7 +82,11 @@ impl<A: Augment> OrdMap<A> {
     /// Goes over the entries in the order of their keys. An entry takes O(1), and the first one of a block O(log n). With `rev` it
     /// goes from the last entry to the first; then the last one of a block takes O(log n), and so does an entry between two blocks.
     ///
-    ///     for entry in map.iter(alloc).rev() { .. }     // keys fall
+    ///     let map = Sums::from_pairs(alloc, &[(1, 10), (2, 20)])?;
+    ///     let mut keys = Vec::new(alloc);
+    ///     for entry in map.iter(alloc) {
+    ///         keys.push(entry?.0)?;
+    ///     }     // keys is [1, 2]
     pub fn iter(&self, alloc: Global) -> Iter<'_, A>
         ensures { result ≡ self.now }
     {
@@ -81,6 +98,8 @@ impl<A: Augment> Default for OrdMap<A> {
     ghost is_default = { λ m. m ≡ [] };
 
     /// The map with no entries.
+    ///
+    ///     Sums::default()     // []
     fn default() -> OrdMap<A> {
         OrdMap::new()
     }
@@ -90,6 +109,10 @@ impl<A: Augment> Share for OrdMap<A> {
     ghost never_refuses = { ⊥ };
 
     /// A map of the same entries, in O(1) and in the memory of this one.
+    ///
+    ///     let mut map = Sums::from_pairs(alloc, &[(1, 10)])?;
+    ///     let before = map.share(alloc)?;
+    ///     map.put(alloc, 1, 11)?;     // before is [(1, 10)], map is [(1, 11)]
     fn share(&self, alloc: Global) -> Result<OrdMap<A>, NoMemory> {
         let map = self.map.share(alloc)?;
         Ok(OrdMap { map })

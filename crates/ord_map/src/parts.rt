@@ -13,6 +13,9 @@ use std::sync::ledger::Blank;
 
 impl<A: Augment> OrdMap<A> {
     /// The map of the entries with keys from `lo` to `hi`, both included, in O(log n); it shares what it can with this one.
+    ///
+    ///     let map = Sums::from_pairs(alloc, &[(1, 10), (2, 20), (3, 30)])?;
+    ///     map.range(alloc, &1, &2)?     // [(1, 10), (2, 20)]
     pub fn range(&self, alloc: Global, lo: &A::Key, hi: &A::Key) -> Result<OrdMap<A>, NoMemory>
         ensures { IfOk result (λ part. part ≡ slice A.Key.cmp self.now lo.now hi.now) }
     {
@@ -21,6 +24,9 @@ impl<A: Augment> OrdMap<A> {
     }
 
     /// The map of the entries with keys less than `key`, in O(log n).
+    ///
+    ///     let map = Sums::from_pairs(alloc, &[(1, 10), (2, 20), (3, 30)])?;
+    ///     map.below(alloc, &2)?     // [(1, 10)]
     pub fn below(&self, alloc: Global, key: &A::Key) -> Result<OrdMap<A>, NoMemory>
         ensures { IfOk result (λ part. part ≡ below A.Key.cmp self.now key.now) }
     {
@@ -29,6 +35,9 @@ impl<A: Augment> OrdMap<A> {
     }
 
     /// The map of the entries with keys greater than `key`, in O(log n).
+    ///
+    ///     let map = Sums::from_pairs(alloc, &[(1, 10), (2, 20), (3, 30)])?;
+    ///     map.above(alloc, &2)?     // [(3, 30)]
     pub fn above(&self, alloc: Global, key: &A::Key) -> Result<OrdMap<A>, NoMemory>
         ensures { IfOk result (λ part. part ≡ above A.Key.cmp self.now key.now) }
     {
@@ -37,6 +46,9 @@ impl<A: Augment> OrdMap<A> {
     }
 
     /// The map of the entries with keys at least `key`, in O(log n).
+    ///
+    ///     let map = Sums::from_pairs(alloc, &[(1, 10), (2, 20), (3, 30)])?;
+    ///     map.at_least(alloc, &2)?     // [(2, 20), (3, 30)]
     pub fn at_least(&self, alloc: Global, key: &A::Key) -> Result<OrdMap<A>, NoMemory>
         ensures { IfOk result (λ part. part ≡ right_of A.Key.cmp self.now key.now) }
     {
@@ -46,6 +58,9 @@ impl<A: Augment> OrdMap<A> {
 
     /// Takes the entries with keys at least `key` out of the map, and answers them as a map of their own, in O(log n). After a
     /// refusal the map is as it was.
+    ///
+    ///     let mut map = Sums::from_pairs(alloc, &[(1, 10), (2, 20), (3, 30)])?;
+    ///     let high = map.split_off(alloc, &2)?;     // high is [(2, 20), (3, 30)], map is [(1, 10)]
     pub fn split_off(&mut self, alloc: Global, key: &A::Key) -> Result<OrdMap<A>, NoMemory>
         ensures high { IfOk result (λ high. high ≡ right_of A.Key.cmp self.old key.now) }
         ensures low { IfOk result (λ _. self.new ≡ below A.Key.cmp self.old key.now) }
@@ -58,6 +73,9 @@ impl<A: Augment> OrdMap<A> {
 
     /// The fold of the entries with keys from `lo` to `hi`, both included, in O(log n), and the `Augment`'s unit where there
     /// are none. It refuses nothing where the `Augment` never refuses.
+    ///
+    ///     let map = Sums::from_pairs(alloc, &[(1, 10), (2, 20), (3, 30)])?;
+    ///     map.fold_range(alloc, &1, &2)?.sum     // 30
     pub fn fold_range(&self, alloc: Global, lo: &A::Key, hi: &A::Key) -> Result<A::Aug, NoMemory>
         ensures value { IfOk result (λ aug. aug ≡ range_fold A.Key.cmp A.base_of A.unit_of A.combined self.now lo.now hi.now) }
         ensures succeeds { A.never_refuses → IsOk result }
@@ -67,6 +85,9 @@ impl<A: Augment> OrdMap<A> {
 
     /// The fold of the entries with keys at most `key`, in O(log n), and the `Augment`'s unit where there are none. It refuses
     /// nothing where the `Augment` never refuses.
+    ///
+    ///     let map = Sums::from_pairs(alloc, &[(1, 10), (2, 20), (3, 30)])?;
+    ///     map.fold_to(alloc, &2)?.greatest     // 20
     pub fn fold_to(&self, alloc: Global, key: &A::Key) -> Result<A::Aug, NoMemory>
         ensures value { IfOk result (λ aug. aug ≡ fold_of A.base_of A.unit_of A.combined (left_of A.Key.cmp self.now key.now)) }
         ensures succeeds { A.never_refuses → IsOk result }
@@ -76,6 +97,9 @@ impl<A: Augment> OrdMap<A> {
 
     /// The fold of the entries with keys at least `key`, in O(log n), and the `Augment`'s unit where there are none. It refuses
     /// nothing where the `Augment` never refuses.
+    ///
+    ///     let map = Sums::from_pairs(alloc, &[(1, 10), (2, 20), (3, 30)])?;
+    ///     map.fold_from(alloc, &2)?.sum     // 50
     pub fn fold_from(&self, alloc: Global, key: &A::Key) -> Result<A::Aug, NoMemory>
         ensures value { IfOk result (λ aug. aug ≡ fold_of A.base_of A.unit_of A.combined (right_of A.Key.cmp self.now key.now)) }
         ensures succeeds { A.never_refuses → IsOk result }

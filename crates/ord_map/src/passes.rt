@@ -10,6 +10,9 @@ use std::alloc::Global;
 impl<A: Augment> OrdMap<A> {
     /// The map of the entries whose base values pass. It passes over each part whose fold fails the test, so for k entries that
     /// pass it takes O(k log(n / k + 1)).
+    ///
+    ///     let map = Sums::from_pairs(alloc, &[(1, 10), (2, 20), (3, 30)])?;
+    ///     map.filter_fold(alloc, &AtLeast { least: 20 })?     // [(2, 20), (3, 30)]
     pub fn filter_fold<T: AugTest<A>>(&self, alloc: Global, test: &T) -> Result<OrdMap<A>, NoMemory>
         ensures { IfOk result (λ part. part ≡ aug_filter A.base_of (T.admits test.now) self.now) }
     {
@@ -19,6 +22,9 @@ impl<A: Augment> OrdMap<A> {
 
     /// The first entry whose base value passes; none exactly where no entry's does. It passes over each part whose fold fails the
     /// test, and takes O(log n).
+    ///
+    ///     let map = Sums::from_pairs(alloc, &[(1, 10), (2, 20), (3, 30)])?;
+    ///     map.first_where(alloc, &AtLeast { least: 20 })?     // Some((2, 20))
     pub fn first_where<T: AugTest<A>>(
         &self,
         alloc: Global,
@@ -31,6 +37,9 @@ impl<A: Augment> OrdMap<A> {
     }
 
     /// The entries in the order of their keys, in O(n).
+    ///
+    ///     let map = Sums::from_pairs(alloc, &[(1, 10), (2, 20)])?;
+    ///     map.to_vec(alloc)?     // [(1, 10), (2, 20)]
     pub fn to_vec(&self, alloc: Global) -> Result<Vec<(A::Key, A::Val)>, NoMemory>
         ensures { IfOk result (λ list. list.items ≡ self.now) }
     {
@@ -38,6 +47,9 @@ impl<A: Augment> OrdMap<A> {
     }
 
     /// What `how` makes of each entry, combined in the order of the keys, and its unit for no entries, in O(n).
+    ///
+    ///     let map = Sums::from_pairs(alloc, &[(1, 20), (2, 10)])?;
+    ///     map.map_reduce(alloc, &Largest)?     // 20
     pub fn map_reduce<H: Reduce<A::Key, A::Val>>(
         &self,
         alloc: Global,

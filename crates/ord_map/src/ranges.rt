@@ -14,8 +14,9 @@ impl<A: Augment> OrdMap<A> {
     /// makes no map and takes no memory: the ends are found in O(log n), and an entry takes what it takes in `iter`. With `rev` it
     /// goes from the last entry to the first.
     ///
-    ///     for entry in prices.range_iter(alloc, Bound::Included(&june), Bound::Excluded(&july)) { .. }
-    ///     for entry in prices.range_iter(alloc, Bound::Unbounded, Bound::Excluded(&july)).rev() { .. }
+    ///     let map = Sums::from_pairs(alloc, &[(1, 10), (2, 20), (3, 30)])?;
+    ///     let mut entries = map.range_iter(alloc, Bound::Unbounded, Bound::Excluded(&3));
+    ///     entries.next_back().transpose()?     // Some((2, 20))
     pub fn range_iter(&self, alloc: Global, lo: Bound<&A::Key>, hi: Bound<&A::Key>) -> Iter<'_, A>
         ensures { result ≡ entries_between A.Key.cmp (bound_map (λ k. k.now) lo.entry) (bound_map (λ k. k.now) hi.entry) self.now }
     {
@@ -26,6 +27,9 @@ impl<A: Augment> OrdMap<A> {
     }
 
     /// Goes over the entries from a place on, counted from 0, as `iter` does; over none where there are at most `at` entries.
+    ///
+    ///     let map = Sums::from_pairs(alloc, &[(1, 10), (2, 20), (3, 30)])?;
+    ///     map.iter_from_place(alloc, 1).next().transpose()?     // Some((2, 20))
     pub fn iter_from_place(&self, alloc: Global, at: u64) -> Iter<'_, A>
         ensures { result ≡ drop at self.now }
     {

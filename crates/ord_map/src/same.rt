@@ -36,6 +36,10 @@ impl<A: Augment<Val: PartialEq>> OrdMap<A> {
     /// Whether another map has the same keys with equal values, as `==` tells of std's maps. It goes over both at once, in O(n), and
     /// ends at the first difference; maps of different sizes take O(1). It makes a share of each entry, and refuses where one
     /// refuses, which std's `Eq` cannot.
+    ///
+    ///     let map = Sums::from_pairs(alloc, &[(1, 10)])?;
+    ///     let other = Sums::from_pairs(alloc, &[(1, 11)])?;
+    ///     map.same(alloc, &other)?     // false
     pub fn same(&self, alloc: Global, other: &OrdMap<A>) -> Result<bool, NoMemory>
         ensures value { IfOk result (λ yes. yes ≡ pointwise (λ p q. A.Key.eq p.0 q.0 && A.Val.eq p.1 q.1) self.now other.now) }
         ensures succeeds { A.Key.never_refuses → A.Val.never_refuses → IsOk result }

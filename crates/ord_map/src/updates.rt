@@ -14,8 +14,8 @@ impl<A: Augment> OrdMap<A> {
     /// Sets a key to a value, in O(log n). Where the `Augment` is total, a node or block that no other map has part in is changed
     /// where it stands, if the node stays balanced; from the first one on that can't be, the path is copied.
     ///
-    ///     let old = map.share(alloc)?;
-    ///     map.put(alloc, 1, 11)?;     // `old` has what it had
+    ///     let mut map = Sums::from_pairs(alloc, &[(1, 10)])?;
+    ///     map.put(alloc, 1, 11)?;     // map is [(1, 11)]
     pub fn put(&mut self, alloc: Global, key: A::Key, val: A::Val) -> Result<(), NoMemory>
         ensures entries { IfOk result (λ _. self.new ≡ set A.Key.cmp self.old key val) }
         ensures kept { OnErr result (self.new ≡ self.old) }
@@ -25,8 +25,8 @@ impl<A: Augment> OrdMap<A> {
 
     /// Sets a key to a value, as `put` does, and answers the value that it had. That is a second way down, and a share of the value.
     ///
-    ///     map.insert(alloc, 1, 10)?;     // None
-    ///     map.insert(alloc, 1, 11)?;     // Some(10)
+    ///     let mut map = Sums::from_pairs(alloc, &[(1, 10)])?;
+    ///     let old = map.insert(alloc, 1, 11)?;     // old is Some(10), map is [(1, 11)]
     pub fn insert(
         &mut self,
         alloc: Global,
@@ -45,8 +45,8 @@ impl<A: Augment> OrdMap<A> {
     /// Removes a key, which the map need not have, in O(log n): where it stands in the same cases as `put`, but for the entry of a
     /// node, which always goes by a copy.
     ///
-    ///     map.del(alloc, &1)?;
-    ///     map.get(alloc, &1)?     // None
+    ///     let mut map = Sums::from_pairs(alloc, &[(1, 10), (2, 20)])?;
+    ///     map.del(alloc, &1)?;     // map is [(2, 20)]
     pub fn del(&mut self, alloc: Global, key: &A::Key) -> Result<(), NoMemory>
         ensures entries { IfOk result (λ _. self.new ≡ drop_key A.Key.cmp self.old key.now) }
         ensures kept { OnErr result (self.new ≡ self.old) }
@@ -56,7 +56,8 @@ impl<A: Augment> OrdMap<A> {
 
     /// Removes a key, as `del` does, and answers the value that it had. Of a key that is not there, nothing is copied.
     ///
-    ///     map.remove(alloc, &1)?     // Some(11)
+    ///     let mut map = Sums::from_pairs(alloc, &[(1, 10), (2, 20)])?;
+    ///     let old = map.remove(alloc, &1)?;     // old is Some(10), map is [(2, 20)]
     pub fn remove(&mut self, alloc: Global, key: &A::Key) -> Result<Option<A::Val>, NoMemory>
         ensures value { IfOk result (λ old. old ≡ lookup A.Key.cmp self.old key.now) }
         ensures entries { IfOk result (λ _. self.new ≡ drop_key A.Key.cmp self.old key.now) }
@@ -73,8 +74,8 @@ impl<A: Augment> OrdMap<A> {
     /// Sets a key to what `how` makes of its value and `val`, or to `val` where the key is new, in O(log n), and in place where
     /// `put` is. After a refusal the map is as it was.
     ///
-    ///     map.put(alloc, 1, 10)?;
-    ///     map.put_with(alloc, 1, 5, &SatSum)?;     // 15 at 1
+    ///     let mut map = Sums::from_pairs(alloc, &[(1, 10)])?;
+    ///     map.put_with(alloc, 1, 5, &SatSum)?;     // map is [(1, 15)]
     pub fn put_with<H: Resolve<A::Val>>(
         &mut self,
         alloc: Global,
