@@ -1,6 +1,6 @@
 //! Operations on whole maps on one thread: each answers what the call of `bulk` without `_alone` does, and asks of keys, values,
 //! folds and what is handed in nothing about threads.
-ghost use Rattle.std.specs.Prelude.{◌≡◌, IfOk};
+ghost use Rattle.std.specs.Prelude.{◌≡◌, ◌+◌, ◌*◌, ◌≤◌, IfOk, length};
 ghost use Rattle.std.specs.List.{filter as filtered};
 ghost use Rattle.map_model.specs.Fold.{reduce};
 ghost use Rattle.map_model.specs.Operations.{after, build, dels, puts};
@@ -8,12 +8,13 @@ ghost use Rattle.map_model.specs.SetOperations.{difference, intersect, union};
 
 use crate::finding::entries_at;
 use crate::map::Map;
-use aug_monoid::{NoMemory, Reduce, Resolve, Second, Test};
+use aug_monoid::{NoMemory, Reduce, Resolve, Second, Steps, Test};
 use bulk_ops::{Combining, Differing, Intersecting, Uniting, shared_sides};
 use bulk_passes::{Filtering, Planting, Reducing};
-use fork_join::divide_alone;
+use fork_join::{divide_alone, divide_uncounted};
 use sorted_lists::last_of_each_key_alone;
 use std::alloc::Global;
+use std::sync::ledger::Ledger;
 use tree_shape::Shape;
 
 impl<M: Shape> Map<M> {
@@ -22,7 +23,7 @@ impl<M: Shape> Map<M> {
         ensures { IfOk result (λ map. map.entries ≡ build M.Key.cmp pairs.now) }
     {
         let entries = last_of_each_key_alone(alloc, pairs)?;
-        Map::from_tree(divide_alone(alloc, &Planting, entries.as_slice()))
+        Map::from_tree(divide_uncounted(alloc, &Planting, entries.as_slice()))
     }
 
     /// The entries of either map. At a key of both the value is what `how` makes of the value here and the value in `b`.
@@ -39,7 +40,7 @@ impl<M: Shape> Map<M> {
         let uniting = Combining {
             how: &Uniting { how },
         };
-        Map::from_tree(divide_alone(alloc, &uniting, sides))
+        Map::from_tree(divide_uncounted(alloc, &uniting, sides))
     }
 
     /// The entries whose keys both maps have, with what `how` makes of the value here and the value in `b`.
@@ -56,7 +57,7 @@ impl<M: Shape> Map<M> {
         let intersecting = Combining {
             how: &Intersecting { how },
         };
-        Map::from_tree(divide_alone(alloc, &intersecting, sides))
+        Map::from_tree(divide_uncounted(alloc, &intersecting, sides))
     }
 
     /// The entries whose keys `b` hasn't. O(m * log(n / m + 1)) for maps of m and n entries, m at most n.
@@ -64,7 +65,7 @@ impl<M: Shape> Map<M> {
         ensures { IfOk result (λ map. map.entries ≡ difference M.Key.cmp self.now.entries b.now.entries) }
     {
         let sides = shared_sides(alloc, &self.tree, &b.tree)?;
-        Map::from_tree(divide_alone(alloc, &Combining { how: &Differing }, sides))
+        Map::from_tree(divide_uncounted(alloc, &Combining { how: &Differing }, sides))
     }
 
     /// The map after all puts in order, so that a later pair of a key wins. O(k * log k + k * log(n / k + 1)) for k pairs and a map
@@ -99,7 +100,22 @@ impl<M: Shape> Map<M> {
     ) -> Result<Map<M>, NoMemory>
         ensures { IfOk result (λ map. map.entries ≡ filtered (λ e. T.passes test.now e.0 e.1) self.now.entries) }
     {
-        let tree = divide_alone(alloc, &Filtering { test }, &self.tree)?;
+        let tree = divide_uncounted(alloc, &Filtering { test }, &self.tree)?;
+        Ok(Map { tree })
+    }
+
+    /// `filter_alone` with its tests counted: each is a step, at most n for a map of n entries. What the answer's trees and their
+    /// joins combine is not counted.
+    pub fn filter_counted<T: Test<M::Key, M::Val>, C: Ledger>(
+        &self,
+        alloc: Global,
+        test: &T,
+        steps: &mut Steps<C>,
+    ) -> Result<Map<M>, NoMemory>
+        ensures entries { IfOk result (λ map. map.entries ≡ filtered (λ e. T.passes test.now e.0 e.1) self.now.entries) }
+        ensures cost { IfOk result (λ _. steps.new ≤ steps.old + length self.now.entries) }
+    {
+        let tree = divide_alone(alloc, &Filtering { test }, &self.tree, steps)?;
         Ok(Map { tree })
     }
 
@@ -111,6 +127,19 @@ impl<M: Shape> Map<M> {
     ) -> Result<H::Out, NoMemory>
         ensures { IfOk result (λ out. out ≡ reduce (H.image_of how.now) (H.unit_of how.now) (H.combined how.now) self.now.entries) }
     {
-        divide_alone(alloc, &Reducing { how }, &self.tree)
+        divide_uncounted(alloc, &Reducing { how }, &self.tree)
+    }
+
+    /// `map_reduce_alone` with its combinations counted: each is a step, at most 2 * n for a map of n entries.
+    pub fn map_reduce_counted<H: Reduce<M::Key, M::Val>, C: Ledger>(
+        &self,
+        alloc: Global,
+        how: &H,
+        steps: &mut Steps<C>,
+    ) -> Result<H::Out, NoMemory>
+        ensures value { IfOk result (λ out. out ≡ reduce (H.image_of how.now) (H.unit_of how.now) (H.combined how.now) self.now.entries) }
+        ensures cost { IfOk result (λ _. steps.new ≤ steps.old + 2 * length self.now.entries) }
+    {
+        divide_alone(alloc, &Reducing { how }, &self.tree, steps)
     }
 }

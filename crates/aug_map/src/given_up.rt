@@ -8,7 +8,7 @@ ghost use Rattle.map_model.specs.SetOperations.{union};
 use crate::map::Map;
 use aug_monoid::{NoMemory, Resolve, Second};
 use bulk_changes::{IntoShape, SyncIntoShape, UnitingInto};
-use fork_join::{Cut, Gate, On, divide, divide_alone};
+use fork_join::{Cut, Gate, On, divide, divide_uncounted};
 use sorted_lists::{last_of_each_key, last_of_each_key_alone};
 use std::alloc::Global;
 use std::marker::{Send, Sync};
@@ -79,7 +79,7 @@ impl<M: IntoShape> Map<M> {
         ensures { IfOk result (λ map. map.entries ≡ union M.Key.cmp (H.resolved how.now) self.entries list.now) }
     {
         let tree = self.into_tree();
-        Map::from_tree(divide_alone(alloc, &UnitingInto { how }, (tree, list)))
+        Map::from_tree(divide_uncounted(alloc, &UnitingInto { how }, (tree, list)))
     }
 
     /// `multi_put_into` on one thread, which asks of keys, values and folds nothing about threads.

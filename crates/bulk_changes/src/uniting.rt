@@ -7,10 +7,11 @@ ghost use Rattle.bulk_changes.specs.Parts.{IsPutTogether, union_of_part};
 use crate::into_shape::IntoShape;
 use crate::merging::{merge_into, resolved};
 use crate::taking::{Taken, take_apart};
-use aug_monoid::{NoMemory, Resolve};
+use aug_monoid::{NoMemory, Resolve, Steps};
 use entry_lists::cut_slice;
 use fork_join::{Divide, Opened};
 use std::alloc::Global;
+use std::sync::ledger::Ledger;
 use tree_make::{joined, tree_of};
 use tree_shape::{Shape, Tree};
 
@@ -39,26 +40,32 @@ impl<'a, 'b, M: IntoShape, H: Resolve<M::Val>> Divide<
 
     ghost extent = { λ _ part. length part.0.entries };
 
+    ghost bound = { λ _ _. 0 };
+
+    ghost closing = { λ _ _. 0 };
+
     // A map alone is no work.
     fn size(&self, part: &(Tree<M>, &'b [(M::Key, M::Val)])) -> u64 {
         part.1.len() as u64
     }
 
-    fn open(
+    fn open<C: Ledger>(
         &self,
         alloc: Global,
         part: (Tree<M>, &'b [(M::Key, M::Val)]),
+        _steps: &mut Steps<C>,
     ) -> Result<Opened<(Tree<M>, &'b [(M::Key, M::Val)]), (M::Key, M::Val), Tree<M>>, NoMemory> {
         let (tree, list) = part;
         open_part::<M, H>(alloc, self.how, tree, list)
     }
 
-    fn close(
+    fn close<C: Ledger>(
         &self,
         alloc: Global,
         left: Tree<M>,
         middle: (M::Key, M::Val),
         right: Tree<M>,
+        _steps: &mut Steps<C>,
     ) -> Result<Tree<M>, NoMemory> {
         joined::<M>(alloc, left, middle, right)
     }

@@ -10,10 +10,11 @@ use crate::combination::Combination;
 use crate::exchanged::Exchanged;
 use crate::few::{FEW_BLOCKS, combine_few, combine_lists, kept_or_none};
 use crate::splitting::split_at;
-use aug_monoid::{Key, NoMemory, Share};
+use aug_monoid::{Key, NoMemory, Share, Steps};
 use bulk_passes::SLICED_BLOCKS;
 use fork_join::{Divide, Opened};
 use std::alloc::Global;
+use std::sync::ledger::Ledger;
 use tree_cut::Parts;
 use tree_join::Part;
 use tree_make::{entries_of, join_around};
@@ -45,6 +46,10 @@ impl<'a, M: Shape, W: Combination<M::Key, M::Val>> Divide<
 
     ghost extent = { λ _. entry_count };
 
+    ghost bound = { λ _ _. 0 };
+
+    ghost closing = { λ _ _. 0 };
+
     // One side of an empty map is no work.
     fn size(&self, part: &(Tree<M>, Tree<M>)) -> u64 {
         let first = part.0.size();
@@ -55,21 +60,23 @@ impl<'a, M: Shape, W: Combination<M::Key, M::Val>> Divide<
         first + second
     }
 
-    fn open(
+    fn open<C: Ledger>(
         &self,
         alloc: Global,
         part: (Tree<M>, Tree<M>),
+        _steps: &mut Steps<C>,
     ) -> Result<Opened<(Tree<M>, Tree<M>), Option<(M::Key, M::Val)>, Tree<M>>, NoMemory> {
         let (a, b) = part;
         open_sides::<M, W>(alloc, self.how, a, b)
     }
 
-    fn close(
+    fn close<C: Ledger>(
         &self,
         alloc: Global,
         left: Tree<M>,
         middle: Option<(M::Key, M::Val)>,
         right: Tree<M>,
+        _steps: &mut Steps<C>,
     ) -> Result<Tree<M>, NoMemory> {
         join_around::<M>(alloc, left, middle, right)
     }

@@ -1,2 +1,3 @@
 pub mod Filtered
+mod Halves
 pub mod Planted

@@ -3,9 +3,10 @@ ghost use Rattle.std.specs.Prelude.{◌≡◌, ◌<◌, ◌∷◌, ◌++◌, len
 ghost use Rattle.map_model.specs.Entries.{IsIncreasing};
 ghost use Rattle.bulk_passes.specs.Answers.{IsAnswer, IsPutTogether, slice_entries};
 
-use aug_monoid::{Key, NoMemory, Share, share_entry};
+use aug_monoid::{Key, NoMemory, Share, Steps, share_entry};
 use fork_join::{Divide, Opened};
 use std::alloc::Global;
+use std::sync::ledger::Ledger;
 use tree_make::{join_around, tree_of_slice};
 use tree_shape::{Shape, Tree};
 
@@ -29,14 +30,19 @@ impl<'a, M: Shape> Divide<&'a [(M::Key, M::Val)], Option<(M::Key, M::Val)>, Tree
 
     ghost extent = { λ _ part. length part.now };
 
+    ghost bound = { λ _ _. 0 };
+
+    ghost closing = { λ _ _. 0 };
+
     fn size(&self, part: &&'a [(M::Key, M::Val)]) -> u64 {
         part.len() as u64
     }
 
-    fn open(
+    fn open<C: Ledger>(
         &self,
         alloc: Global,
         part: &'a [(M::Key, M::Val)],
+        _steps: &mut Steps<C>,
     ) -> Result<Opened<&'a [(M::Key, M::Val)], Option<(M::Key, M::Val)>, Tree<M>>, NoMemory> {
         if part.len() > PIECE {
             if let Some((front, middle, back)) = halves::<M::Key, M::Val>(part) {
@@ -48,12 +54,13 @@ impl<'a, M: Shape> Divide<&'a [(M::Key, M::Val)], Option<(M::Key, M::Val)>, Tree
         Ok(Opened::Done(tree))
     }
 
-    fn close(
+    fn close<C: Ledger>(
         &self,
         alloc: Global,
         left: Tree<M>,
         middle: Option<(M::Key, M::Val)>,
         right: Tree<M>,
+        _steps: &mut Steps<C>,
     ) -> Result<Tree<M>, NoMemory> {
         join_around::<M>(alloc, left, middle, right)
     }

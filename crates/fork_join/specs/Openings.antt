@@ -1,5 +1,5 @@
 -- What the opening of a part gives, and what the answers for its halves are.
-use Rattle.std.specs.Prelude.{ℕ, ◌<◌}
+use Rattle.std.specs.Prelude.{ℕ, ◌+◌, ◌<◌}
 use Rattle.fork_join.specs.declared.work.Opened.{Opened}
 use Rattle.fork_join.specs.declared.work.Opened.TheVariants.{Done, Split}
 
@@ -17,3 +17,8 @@ pub record AreHalves {P M O : Type 0} (answers : P → O → Type 0) (divides : 
   pub divided : divides part front middle back
   pub front_answer : answers front left
   pub back_answer : answers back right
+
+-- the most steps that are left once a part is opened: none if it is done, else those of the halves and of the close
+abbrev pub left_to_do : {P M O : Type 0} → (P → ℕ) → ℕ → Opened P M O → ℕ
+left_to_do bound closing (Done _) = 0
+left_to_do bound closing (Split front _ back) = bound front + bound back + closing

@@ -4,12 +4,13 @@ ghost use Rattle.std.specs.List.{flat_map};
 ghost use Rattle.map_model.specs.Operations.{build};
 
 use crate::gives::Gives;
-use aug_monoid::{Key, NoMemory, Second};
+use aug_monoid::{Key, NoMemory, Second, Steps};
 use entry_lists::union_of;
 use fork_join::{Cut, Divide, Gate, On, Opened, divide};
 use sorted_lists::put_in_order;
 use std::alloc::Global;
 use std::marker::{Send, Sync};
+use std::sync::ledger::Ledger;
 use std::thread::Threads;
 
 // The keys of a list's items, each part of at most `most` items at once.
@@ -28,14 +29,19 @@ impl<'a, T, K: Key, W: Gives<T, K>> Divide<&'a [T], (), Vec<(K, ())>> for Gather
 
     ghost extent = { λ _ part. length part.now };
 
+    ghost bound = { λ _ _. 0 };
+
+    ghost closing = { λ _ _. 0 };
+
     fn size(&self, part: &&'a [T]) -> u64 {
         part.len() as u64
     }
 
-    fn open(
+    fn open<C: Ledger>(
         &self,
         alloc: Global,
         part: &'a [T],
+        _steps: &mut Steps<C>,
     ) -> Result<Opened<&'a [T], (), Vec<(K, ())>>, NoMemory> {
         if part.len() > self.most && part.len() >= 2 {
             let (front, back) = part.split_at(part.len() / 2);
@@ -45,12 +51,13 @@ impl<'a, T, K: Key, W: Gives<T, K>> Divide<&'a [T], (), Vec<(K, ())>> for Gather
         Ok(Opened::Done(keys))
     }
 
-    fn close(
+    fn close<C: Ledger>(
         &self,
         alloc: Global,
         left: Vec<(K, ())>,
         _middle: (),
         right: Vec<(K, ())>,
+        _steps: &mut Steps<C>,
     ) -> Result<Vec<(K, ())>, NoMemory> {
         union_of(alloc, &left, &right, &Second)
     }

@@ -4,11 +4,12 @@ ghost use Rattle.graph_comp.specs.Forests.{HasEnds, Spans};
 
 use crate::forest::{roots, unite, unite_all};
 use crate::vertices::place_of;
-use aug_monoid::NoMemory;
+use aug_monoid::{NoMemory, Steps};
 use fork_join::{Cut, Divide, Gate, On, Opened, divide};
 use graph_snap::Edge;
 use std::alloc::Global;
 use std::marker::Sync;
+use std::sync::ledger::Ledger;
 use std::thread::Threads;
 
 // Makes the trees of both ends of each edge one.
@@ -52,14 +53,19 @@ impl<'a> Divide<&'a [Edge], (), Vec<usize>> for Spanning<'a> {
 
     ghost extent = { λ _ part. length part.now };
 
+    ghost bound = { λ _ _. 0 };
+
+    ghost closing = { λ _ _. 0 };
+
     fn size(&self, part: &&'a [Edge]) -> u64 {
         part.len() as u64
     }
 
-    fn open(
+    fn open<C: Ledger>(
         &self,
         alloc: Global,
         part: &'a [Edge],
+        _steps: &mut Steps<C>,
     ) -> Result<Opened<&'a [Edge], (), Vec<usize>>, NoMemory> {
         if part.len() > self.most && part.len() >= 2 {
             let (front, back) = part.split_at(part.len() / 2);
@@ -69,12 +75,13 @@ impl<'a> Divide<&'a [Edge], (), Vec<usize>> for Spanning<'a> {
         Ok(Opened::Done(parents))
     }
 
-    fn close(
+    fn close<C: Ledger>(
         &self,
         _alloc: Global,
         mut left: Vec<usize>,
         _middle: (),
         right: Vec<usize>,
+        _steps: &mut Steps<C>,
     ) -> Result<Vec<usize>, NoMemory> {
         unite_all(left.as_mut_slice(), right.as_slice());
         Ok(left)

@@ -1,5 +1,5 @@
 //! The postings of a batch of documents, gathered in parts.
-ghost use Rattle.std.specs.Prelude.{◌≡◌, ◌++◌, ℕ, IfOk, List, length, OnOk};
+ghost use Rattle.std.specs.Prelude.{◌≡◌, ◌+◌, ◌≤◌, ◌++◌, ℕ, IfOk, List, length, OnOk};
 ghost use Rattle.map_model.specs.Entries.{lookup};
 ghost use Rattle.std.specs.BTreeMap.{get};
 ghost use Rattle.fork_join.specs.Openings.{AreHalves};
@@ -13,11 +13,12 @@ use crate::marking::Marked;
 use crate::postings::Merge;
 use crate::table::{Table, lists_of, push_doc};
 use crate::tally::weights_of;
-use aug_monoid::NoMemory;
+use aug_monoid::{NoMemory, Steps};
 use fork_join::{Cut, Divide, Gate, On, Opened, divide};
 use std::alloc::Global;
 use std::collections::BTreeMap;
 use std::marker::Sync;
+use std::sync::ledger::Ledger;
 use std::thread::Threads;
 
 /// The postings of some documents, and what becomes of each.
@@ -42,14 +43,19 @@ impl<'a> Divide<&'a [Marked<'a>], (), Gathered> for Gathering {
 
     ghost extent = { λ _ part. length part.now };
 
+    ghost bound = { λ _ _. 0 };
+
+    ghost closing = { λ _ _. 0 };
+
     fn size(&self, part: &&'a [Marked<'a>]) -> u64 {
         part.len() as u64
     }
 
-    fn open(
+    fn open<C: Ledger>(
         &self,
         alloc: Global,
         part: &'a [Marked<'a>],
+        _steps: &mut Steps<C>,
     ) -> Result<Opened<&'a [Marked<'a>], (), Gathered>, NoMemory> {
         if part.len() > self.most && part.len() >= 2 {
             let (front, back) = part.split_at(part.len() / 2);
@@ -59,15 +65,17 @@ impl<'a> Divide<&'a [Marked<'a>], (), Gathered> for Gathering {
         Ok(Opened::Done(gathered))
     }
 
-    fn close(
+    fn close<C: Ledger>(
         &self,
         alloc: Global,
         left: Gathered,
         middle: (),
         right: Gathered,
+        _steps: &mut Steps<C>,
     ) -> Result<Gathered, NoMemory>
         requires { AreHalves IsGatheredOf AreParts left middle right }
-        ensures { IfOk result (λ out. (part front back : Part) → AreParts part front middle back → IsGatheredOf front left → IsGatheredOf back right → IsGatheredOf part out) }
+        ensures answer { IfOk result (λ out. (part front back : Part) → AreParts part front middle back → IsGatheredOf front left → IsGatheredOf back right → IsGatheredOf part out) }
+        ensures cost { IfOk result (λ _. (part front back : Part) → AreParts part front middle back → IsGatheredOf front left → IsGatheredOf back right → _steps.new ≤ _steps.old + 0) }
     {
         let lists = left.lists.union_alone(alloc, &right.lists, &Merge)?;
         let mut outcomes = left.outcomes;

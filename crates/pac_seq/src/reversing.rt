@@ -4,11 +4,12 @@ ghost use Rattle.map_model.specs.Balance.{IsBlockSize};
 ghost use Rattle.pac_seq.specs.Reversed.{IsReversed, IsAround};
 
 use crate::seq::SeqOver;
-use aug_monoid::{NoMemory, Share};
-use fork_join::{Cut, Divide, Gate, On, Opened, divide, divide_alone};
+use aug_monoid::{NoMemory, Share, Steps};
+use fork_join::{Cut, Divide, Gate, On, Opened, divide, divide_uncounted};
 use seq_core::{BlockSize, Fold, Look, SeqTree, SyncFold, copy_items, join, share_item};
 use std::alloc::Global;
 use std::marker::{Send, Sync};
+use std::sync::ledger::Ledger;
 use std::thread::Threads;
 
 /// Sequences are turned round.
@@ -24,14 +25,19 @@ impl<'a, F: Fold, S: BlockSize> Divide<&'a SeqTree<F, S>, F::Item, SeqTree<F, S>
 
     ghost extent = { λ _ part. length part.now.items };
 
+    ghost bound = { λ _ _. 0 };
+
+    ghost closing = { λ _ _. 0 };
+
     fn size(&self, part: &&'a SeqTree<F, S>) -> u64 {
         part.size()
     }
 
-    fn open(
+    fn open<C: Ledger>(
         &self,
         alloc: Global,
         part: &'a SeqTree<F, S>,
+        _steps: &mut Steps<C>,
     ) -> Result<Opened<&'a SeqTree<F, S>, F::Item, SeqTree<F, S>>, NoMemory> {
         match part.look() {
             Look::Empty => Ok(Opened::Done(part.share(alloc)?)),
@@ -48,12 +54,13 @@ impl<'a, F: Fold, S: BlockSize> Divide<&'a SeqTree<F, S>, F::Item, SeqTree<F, S>
         }
     }
 
-    fn close(
+    fn close<C: Ledger>(
         &self,
         alloc: Global,
         left: SeqTree<F, S>,
         middle: F::Item,
         right: SeqTree<F, S>,
+        _steps: &mut Steps<C>,
     ) -> Result<SeqTree<F, S>, NoMemory> {
         join(alloc, &right, middle, &left)
     }
@@ -95,7 +102,7 @@ impl<F: Fold, S: BlockSize> SeqOver<F, S> {
     pub fn reverse_alone(&self, alloc: Global) -> Result<SeqOver<F, S>, NoMemory>
         ensures { IfOk result (λ seq. seq.items ≡ reverse self.now.items) }
     {
-        let tree = divide_alone(alloc, &Reversing, &self.tree)?;
+        let tree = divide_uncounted(alloc, &Reversing, &self.tree)?;
         Ok(SeqOver { tree })
     }
 }

@@ -1,5 +1,5 @@
 //! A map and the outcomes of many keys as work that is divided.
-ghost use Rattle.std.specs.Prelude.{◌≡◌, IfOk};
+ghost use Rattle.std.specs.Prelude.{◌≡◌, ◌+◌, ◌≤◌, IfOk};
 ghost use Rattle.std.specs.Option.{option_map};
 ghost use Rattle.std.specs.Ordering.{nat_cmp};
 ghost use Rattle.fork_join.specs.Openings.{AreHalves, IsOpened};
@@ -11,11 +11,12 @@ use crate::applying::ServedMap;
 use crate::changing::with_few;
 use crate::joining::{join_around, sides_of};
 use crate::merging::made_anew;
-use aug_monoid::NoMemory;
+use aug_monoid::{NoMemory, Steps};
 use fork_join::{Divide, Gate, On, Opened, divide};
 use op_runs::Outcome;
 use std::alloc::Global;
 use std::marker::Sync;
+use std::sync::ledger::Ledger;
 use std::thread::Threads;
 
 /// A part of at most so many entries and so many keys is made anew from one list.
@@ -102,6 +103,10 @@ impl<'a> Divide<(ServedMap, &'a [(u64, Outcome)]), Option<(u64, u64)>, ServedMap
 
     ghost extent = { λ _. key_count };
 
+    ghost bound = { λ _ _. 0 };
+
+    ghost closing = { λ _ _. 0 };
+
     // Of a part with few keys most entries stay where they are.
     fn size(&self, part: &(ServedMap, &'a [(u64, Outcome)])) -> u64 {
         let keys = part.1.len() as u64;
@@ -109,10 +114,11 @@ impl<'a> Divide<(ServedMap, &'a [(u64, Outcome)]), Option<(u64, u64)>, ServedMap
         keys.saturating_add(part.0.size().min(most))
     }
 
-    fn open(
+    fn open<C: Ledger>(
         &self,
         alloc: Global,
         part: (ServedMap, &'a [(u64, Outcome)]),
+        _steps: &mut Steps<C>,
     ) -> Result<
         Opened<(ServedMap, &'a [(u64, Outcome)]), Option<(u64, u64)>, ServedMap>,
         NoMemory,
@@ -125,15 +131,17 @@ impl<'a> Divide<(ServedMap, &'a [(u64, Outcome)]), Option<(u64, u64)>, ServedMap
         cut_in_middle(alloc, map, outcomes)
     }
 
-    fn close(
+    fn close<C: Ledger>(
         &self,
         alloc: Global,
         left: ServedMap,
         middle: Option<(u64, u64)>,
         right: ServedMap,
+        _steps: &mut Steps<C>,
     ) -> Result<ServedMap, NoMemory>
         requires { AreHalves IsDone AreSides left middle right }
-        ensures { IfOk result (λ out. (part front back : Part) → AreSides part front middle back → IsDone front left → IsDone back right → IsDone part out) }
+        ensures answer { IfOk result (λ out. (part front back : Part) → AreSides part front middle back → IsDone front left → IsDone back right → IsDone part out) }
+        ensures cost { IfOk result (λ _. (part front back : Part) → AreSides part front middle back → IsDone front left → IsDone back right → _steps.new ≤ _steps.old + 0) }
     {
         join_around(alloc, &left, middle, &right)
     }

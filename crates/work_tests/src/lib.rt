@@ -20,6 +20,8 @@ mod in_place;
 #[cfg(test)]
 mod many;
 #[cfg(test)]
+mod passes;
+#[cfg(test)]
 mod slices;
 #[cfg(test)]
 mod sums;

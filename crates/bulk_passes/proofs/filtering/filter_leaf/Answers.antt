@@ -14,9 +14,12 @@ loop-at-preserved g c =
     let before = c.args.out.now.items in
     let at = c.loop-at._at in
     let entry = entry_of c.in-Some.entry in
-    let index = c.loop-at.invariant.1 in
+    let index = c.loop-at.invariant.2 in
     let found : slice_get entries at ≡ Some entry = sym (rw index at c.walk_next.ensures.value) ∙ ap (option_map entry_of) c.in-Some.is in
     let more : take (at + 1) entries ≡ take at entries ++ entry ∷ [] = take_more entries at entry (slice_get_within entries at entry found) ∙ ap (λ x. take at entries ++ x ∷ []) (get_or_from_slice_get entries at entry entry found) in
     let kept : filter p (take (at + 1) entries) ≡ filter p (take at entries) ++ filter p (entry ∷ []) = ap (filter p) more ∙ filter-append p (take at entries) (entry ∷ []) in
     let moved = rw c.in-Some.is at c.walk_next.ensures.moved in
-    (rw (c.key.ensures, c.val.ensures) at c.in_ok-push_passing.ensures ∙ ap (λ x. x ++ filter p (entry ∷ [])) c.loop-at.invariant.0 ∙ append_assoc before (filter p (take at entries)) (filter p (entry ∷ [])) ∙ ap (λ x. before ++ x) (sym kept), omega (arith, moved, index), c.walk_next.ensures.fits)
+    (rw (c.key.ensures, c.val.ensures) at c.in_ok-push_passing.ensures.value ∙ ap (λ x. x ++ filter p (entry ∷ [])) c.loop-at.invariant.0 ∙ append_assoc before (filter p (take at entries)) (filter p (entry ∷ [])) ∙ ap (λ x. before ++ x) (sym kept), omega (arith, c.loop-at.invariant.1, c.in_ok-push_passing.ensures.cost), omega (arith, moved, index), c.walk_next.ensures.fits)
+
+pub returns-in_err-push_passing-clause-cost : goal.returns-in_err-push_passing-clause-cost
+returns-in_err-push_passing-clause-cost g c = omega (arith, c.loop-at.invariant.1, c.in_err-push_passing.ensures.cost)

@@ -1,4 +1,4 @@
-use Rattle.std.proofs.Common.{◌∙◌, subst, sym}
+use Rattle.std.proofs.Common.{◌∙◌, arith, subst, sym}
 use Rattle.std.specs.List.{flat_map}
 use Rattle.std.proofs.lemmas.Result.{IfOk-weaker}
 use Rattle.map_model.specs.Entries.{IsIncreasing}
@@ -16,8 +16,11 @@ union_of-requires-clause-second g c =
     let given = g.W.Gives.given c.args.self.now.how.now in
     subst (IsIncreasing g.K.Ord.cmp) (sym (c.deref-2.ensures.value ∙ c.requires.back_answer)) (IsIncreasing-build g.met.K.Ord.total (flat_map given c.requires.back.now))
 
-pub returns : goal.returns
-returns g c =
+pub returns-clause-answer : goal.returns-clause-answer
+returns-clause-answer g c =
     let given = g.W.Gives.given c.args.self.now.how.now in
     IfOk-weaker c.union_of.result _ _ (λ out is part front back divided near far.
     halves_united g.met.K.Ord.total g.met.K.Key.exact given part.now front.now back.now c.deref.result.now c.deref-2.result.now out.items divided (c.deref.ensures.value ∙ near) (c.deref-2.ensures.value ∙ far) is) c.union_of.ensures
+
+pub returns-clause-cost : goal.returns-clause-cost
+returns-clause-cost g c = IfOk-weaker c.union_of.result _ _ (λ out is part front back divided near far. omega arith) c.union_of.ensures

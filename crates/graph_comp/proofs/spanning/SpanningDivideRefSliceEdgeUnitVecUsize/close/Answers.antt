@@ -4,8 +4,8 @@ use Rattle.graph_comp.specs.Forests.{Spans}
 use Rattle.graph_comp.proofs.Spans.{spans_both}
 use Rattle.graph_comp.proofs.spanning.SpanningDivideRefSliceEdgeUnitVecUsize.close.Goals as goal
 
-pub returns : goal.returns
-returns c = λ part front back is near far.
+pub returns-clause-answer : goal.returns-clause-answer
+returns-clause-answer g c = λ part front back is near far.
     let vertices = c.args.self.now.vertices.now in
     let items = c.args.left.items in
     let new = c.unite_all.new.parents in
