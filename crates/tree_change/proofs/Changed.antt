@@ -1,13 +1,14 @@
 -- A node made anew over changed sides.
-use Rattle.std.proofs.Common.{◌≡◌, ℕ, zero, suc, ◌+◌, ◌^◌, ◌<◌, ◌≤◌, List, [], ◌∷◌, ◌++◌, length, take, drop, refl, sym, subst, arith}
+use Rattle.std.proofs.Common.{◌≡◌, ℕ, zero, suc, ◌+◌, ◌^◌, ◌<◌, ◌≤◌, List, [], ◌∷◌, ◌++◌, length, take, drop, refl, sym, ◌∙◌, subst, arith}
 use Rattle.std.specs.Prelude.{Result, Ok, Err, IfOk, OnErr}
 use Rattle.std.specs.declared.cmp.Ordering.{Ordering}
-use Rattle.map_model.specs.Balance.{FillsNode, IsBalanced, IsBlockSize, weight}
+use Rattle.map_model.specs.Balance.{FillsNode, IsBalanced, weight}
 use Rattle.map_model.specs.Contents.{Contents}
 use Rattle.map_model.specs.Entries.{IsIncreasing}
+use Rattle.map_model.proofs.Cuts.{length-around}
+use Rattle.map_model.proofs.Heights.{node_is_long}
 use Rattle.tree_shape.specs.Shape.{IsNode}
 use Rattle.tree_shape.specs.declared.tree.Node.{Node}
-use Rattle.tree_shape.proofs.Nodes.{is_node}
 use Rattle.tree_change.specs.Refreshed.{IsRefreshed}
 
 -- what holds after success and after a refusal
@@ -29,14 +30,22 @@ module _ {M K V X A L : Type 0} (order : K → K → Ordering) (base : K → V �
     pub entries_are : node.left.entries ++ (node.key, node.val) ∷ node.right.entries ≡ entries
 
   pub changed : (left : Contents K V) (key : K) (val : V) (right : Contents K V) (node : Node M K V X A L) (entries : List (K × V))
-      → IsBlockSize block → IsRefreshed base unit combine block left key val right node
+      → IsRefreshed base unit combine block left key val right node
       → left.entries ++ (key, val) ∷ right.entries ≡ entries → IsIncreasing order entries
       → IsBalanced (weight left.entries) (weight right.entries) → FillsNode block (length left.entries) (length right.entries) → length left.entries + length right.entries + 1 < 2 ^ 60
       → IsNodeOf entries node
-  changed left key val right node entries lawful new is rises balanced filled fits =
+  changed left key val right node entries new is rises balanced filled fits =
       record {
-        shape = rw (new.left_is, new.key_is, new.val_is, new.right_is)
-            (is_node order base unit combine block left key val right node.fold node.size node.height lawful (subst (IsIncreasing order) (sym is) rises)
-            new.fold_is new.size_is (omega (arith, new.size_is, fits)) new.height_is balanced filled new.left_law new.right_law);
+        shape = rw (new.left_is, new.key_is, new.val_is, new.right_is) (record {
+          increasing = subst (IsIncreasing order) (sym is) rises;
+          fold_is = new.fold_is;
+          size_is = new.size_is ∙ sym (length-around left.entries (key, val) right.entries);
+          size_fits = omega (arith, new.size_is, fits);
+          height_is = new.height_is;
+          balanced = balanced;
+          long = let long = node_is_long block (length left.entries) (length right.entries) filled in omega (arith, new.size_is, long);
+          filled = filled;
+          law = new.law balanced filled;
+        });
         entries_are = rw (new.left_is, new.key_is, new.val_is, new.right_is) is;
       }

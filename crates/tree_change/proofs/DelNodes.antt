@@ -41,7 +41,7 @@ module _ {M K V X A L : Type 0} {order : K → K → Ordering} (total : IsTotalO
       let less : length side.entries ≤ length node.left.entries = rw del sizes.0 in
       let few : length node.left.entries ≤ length side.entries + 1 = rw del sizes.1 in
       let whole = ap (λ l. l ++ (node.key, node.val) ∷ node.right.entries) del ∙ sym (drop_key-around_less total node.left.entries node.key node.val node.right.entries q own.shape.increasing way.0) ∙ ap (λ m. drop_key order m q) own.entries_are in
-      changed order base unit combine block side node.key node.val node.right new _ lawful refreshed whole del_increasing
+      changed order base unit combine block side node.key node.val node.right new _ refreshed whole del_increasing
       (spared_balance block (length node.left.entries) (length side.entries) (length node.right.entries) less few own.shape.balanced way.1)
       (spared_fill block (length node.left.entries) (length side.entries) (length node.right.entries) less few own.shape.filled way.1)
       (del_left_fits side del)
@@ -53,7 +53,7 @@ module _ {M K V X A L : Type 0} {order : K → K → Ordering} (total : IsTotalO
       let less : length side.entries ≤ length node.right.entries = rw del sizes.0 in
       let few : length node.right.entries ≤ length side.entries + 1 = rw del sizes.1 in
       let whole = ap (λ r. node.left.entries ++ (node.key, node.val) ∷ r) del ∙ sym (drop_key-around_greater total node.left.entries node.key node.val node.right.entries q own.shape.increasing way.0) ∙ ap (λ m. drop_key order m q) own.entries_are in
-      changed order base unit combine block node.left node.key node.val side new _ lawful refreshed whole del_increasing
+      changed order base unit combine block node.left node.key node.val side new _ refreshed whole del_increasing
       (balance_turned _ _ (spared_balance block (length node.right.entries) (length side.entries) (length node.left.entries) less few (balance_turned _ _ own.shape.balanced) way.1))
       (fill_turned block _ _ (spared_fill block (length node.right.entries) (length side.entries) (length node.left.entries) less few (fill_turned block _ _ own.shape.filled) way.1))
       (del_right_fits side del)

@@ -1,8 +1,9 @@
 -- A block or a node that has one owner, seen as the top of a map.
-use Rattle.std.proofs.Common.{◌≡◌, ℕ, ◌+◌, ◌^◌, ◌<◌, ◌≤◌, List, ◌∷◌, ◌++◌, length, sym, ap, subst, ◌∙◌, arith}
+use Rattle.std.proofs.Common.{◌≡◌, ℕ, ◌+◌, ◌^◌, ◌<◌, ◌≤◌, List, ◌∷◌, ◌++◌, length, sym, ap, subst, ◌∙◌, arith, mul-le-mul_left}
 use Rattle.std.specs.declared.alloc.Global.{Global}
 use Rattle.std.specs.declared.cmp.Ordering.{Ordering}
 use Rattle.std.specs.declared.sync.Arc.{Arc}
+use Rattle.map_model.specs.Balance.{HeightLaw}
 use Rattle.map_model.specs.Contents.{Contents}
 use Rattle.map_model.proofs.Cuts.{length-around}
 use Rattle.tree_shape.specs.Shape.{IsBlock, IsNode}
@@ -65,3 +66,14 @@ module _ {M K V X A L : Type 0} {order : K → K → Ordering} {base : K → V �
 
   pub sides_fit : length node.left.entries + length node.right.entries + 1 < 2 ^ 60
   sides_fit = omega (arith, own.shape.size_is, own.shape.size_fits, length-around node.left.entries (node.key, node.val) node.right.entries)
+
+  -- a node of its height may have an entry more
+  pub law_of_one_more : HeightLaw block node.height (node.size + 1)
+  law_of_one_more =
+      let law = own.shape.law in
+      let long = own.shape.long in
+      record {
+        one_block = λ few. absurd (omega (arith, few, long));
+        two_blocks = λ _ few. law.two_blocks long (omega (arith, few));
+        bound = λ _. let bound = law.bound (omega (arith, long)) in let more : node.size + 1 ≤ node.size + 1 + 1 = omega arith in let up = mul-le-mul_left (3 ^ node.height) more in omega (arith, bound, up);
+      }

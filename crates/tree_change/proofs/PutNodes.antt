@@ -90,7 +90,7 @@ module _ {M K V X A L : Type 0} {order : K → K → Ordering} (total : IsTotalO
       let more : length node.left.entries ≤ length side.entries = rw put sizes.0 in
       let few : length side.entries ≤ length node.left.entries + 1 = rw put sizes.1 in
       let whole = left_whole side put way.0 in
-      changed order base unit combine block side node.key node.val node.right new _ lawful refreshed whole put_increasing
+      changed order base unit combine block side node.key node.val node.right new _ refreshed whole put_increasing
       (grown_balance block (length node.left.entries) (length side.entries) (length node.right.entries) more few own.shape.balanced way.1)
       (grown_fill block (length node.left.entries) (length side.entries) (length node.right.entries) more few own.shape.filled way.1)
       (put_left_fits side put way.1)
@@ -102,7 +102,7 @@ module _ {M K V X A L : Type 0} {order : K → K → Ordering} (total : IsTotalO
       let more : length node.right.entries ≤ length side.entries = rw put sizes.0 in
       let few : length side.entries ≤ length node.right.entries + 1 = rw put sizes.1 in
       let whole = right_whole side put way.0 in
-      changed order base unit combine block node.left node.key node.val side new _ lawful refreshed whole put_increasing
+      changed order base unit combine block node.left node.key node.val side new _ refreshed whole put_increasing
       (balance_turned _ _ (grown_balance block (length node.right.entries) (length side.entries) (length node.left.entries) more few (balance_turned _ _ own.shape.balanced) way.1))
       (fill_turned block _ _ (grown_fill block (length node.right.entries) (length side.entries) (length node.left.entries) more few (fill_turned block _ _ own.shape.filled) way.1))
       (put_right_fits side put way.1)
@@ -111,4 +111,4 @@ module _ {M K V X A L : Type 0} {order : K → K → Ordering} (total : IsTotalO
   pub put_here : (new : Node M K V X A L) → order q node.key ≡ Equal → IsRefreshed base unit combine block node.left node.key v node.right new → IsNodeOf order base unit combine block (set order map.entries q v) new
   put_here new same refreshed =
       let whole = ap (λ k. node.left.entries ++ (k, v) ∷ node.right.entries) (sym (exact q node.key same)) ∙ sym (set-around_equal total node.left.entries node.key node.val node.right.entries q own.shape.increasing same v) ∙ ap (λ m. set order m q v) own.entries_are in
-      changed order base unit combine block node.left node.key v node.right new _ lawful refreshed whole put_increasing own.shape.balanced own.shape.filled (sides_fit map node own)
+      changed order base unit combine block node.left node.key v node.right new _ refreshed whole put_increasing own.shape.balanced own.shape.filled (sides_fit map node own)

@@ -1,6 +1,6 @@
 -- A node over given sides, with what it stores about them.
 use Rattle.std.specs.Prelude.{◌≡◌, ℕ, ◌+◌, max, List, ◌∷◌, ◌++◌, length}
-use Rattle.map_model.specs.Balance.{HeightLaw}
+use Rattle.map_model.specs.Balance.{FillsNode, HeightLaw, IsBalanced, weight}
 use Rattle.map_model.specs.Contents.{Contents}
 use Rattle.map_model.specs.Fold.{fold_of}
 use Rattle.aug_monoid.specs.Commuting.{IsCommutativeOver}
@@ -15,8 +15,7 @@ pub record IsRefreshed {M K V X A L : Type 0} (base : K → V → X) (unit : X) 
   pub fold_is : node.fold ≡ fold_of base unit combine (left.entries ++ (key, val) ∷ right.entries)
   pub size_is : node.size ≡ length left.entries + length right.entries + 1
   pub height_is : node.height ≡ max left.height right.height + 1
-  pub left_law : HeightLaw block left.height (length left.entries)
-  pub right_law : HeightLaw block right.height (length right.entries)
+  pub law : IsBalanced (weight left.entries) (weight right.entries) → FillsNode block (length left.entries) (length right.entries) → HeightLaw block node.height node.size
 
 -- where values combine alike in either order, a fold and one more value combine to the fold of these entries
 abbrev pub TakesIn : {K V X : Type 0} → (X → Type 0) → (K → V → X) → X → (X → X → X) → X → X → List (K × V) → Type 0

@@ -1,6 +1,6 @@
 //! What a node needs to be changed in place.
 ghost use Rattle.std.specs.Prelude.{◌≡◌, ◌+◌, ◌^◌, ◌<◌, ◌≤◌, IsTrue, length, max};
-ghost use Rattle.map_model.specs.Balance.{HeightLaw};
+ghost use Rattle.map_model.specs.Balance.{FillsNode, HeightLaw, IsBalanced, weight};
 ghost use Rattle.aug_monoid.specs.Commuting.{IsCommutativeOver};
 ghost use Rattle.tree_change.specs.Refreshed.{IsRefreshed, NodeTakesIn};
 ghost use Rattle.tree_change.specs.Room.{CanSpare, HasRoom};
@@ -50,11 +50,20 @@ pub(crate) enum Way {
     Copy,
 }
 
-/// Whether a node over two sides stays one with an entry more on the near side, or as many.
-fn has_room<M: Shape>(near: &Tree<M>, far: &Tree<M>) -> bool
-    ensures { IsTrue result → HasRoom M.BLOCK (length near.now.entries) (length far.now.entries) }
+/// How many entries a node of so many has beside one of its sides, without a look at the other side.
+fn far_size<M: Shape>(near: &Tree<M>, node_size: u64) -> u64
+    requires { length near.now.entries < node_size }
+    ensures { length near.now.entries + result + 1 ≡ node_size }
 {
-    let (near_size, far_size) = (near.size(), far.size());
+    node_size - near.size() - 1
+}
+
+/// Whether a node over two sides stays one with an entry more on the near side, or as many.
+fn has_room<M: Shape>(near: &Tree<M>, far_size: u64) -> bool
+    requires { far_size < 2 ^ 60 }
+    ensures { IsTrue result → HasRoom M.BLOCK (length near.now.entries) far_size }
+{
+    let near_size = near.size();
     let block = near.block_size();
     if near_size + far_size + 2 >= MOST_ENTRIES {
         return false;
@@ -86,14 +95,16 @@ pub(crate) fn way_of_put<M: Shape, C: Ledger>(
     key: &M::Key,
     steps: &mut Steps<C>,
 ) -> Way
+    requires size { node.now.size ≡ length node.now.left.entries + length node.now.right.entries + 1 }
+    requires fits { node.now.size < 2 ^ 60 }
     ensures way { IsWayOfPut M.Key.cmp M.BLOCK key.now node.now.left node.now.key node.now.right result }
     ensures one_step { steps.new ≡ steps.old + 1 }
 {
     match key.order(&node.key, steps) {
-        Ordering::Less if has_room(&node.left, &node.right) => Way::Left,
+        Ordering::Less if has_room(&node.left, far_size(&node.left, node.size)) => Way::Left,
         Ordering::Less => Way::Copy,
         Ordering::Equal => Way::Here,
-        Ordering::Greater if has_room(&node.right, &node.left) => Way::Right,
+        Ordering::Greater if has_room(&node.right, far_size(&node.right, node.size)) => Way::Right,
         Ordering::Greater => Way::Copy,
     }
 }
@@ -134,23 +145,18 @@ pub(crate) fn refresh<M: Shape, C: Ledger>(alloc: Global, node: &mut Node<M>, st
     node.height = height;
 }
 
-/// The height of a node, which it has already where that of its changed side is what it was.
+/// The height of a node, which it has already where that of its changed side is what it was: then neither side is looked at.
 fn height_after_put<M: Shape>(node: &Node<M>, is_same: bool) -> u32
+    requires fits { length node.now.left.entries + length node.now.right.entries + 1 < 2 ^ 60 }
     requires same { IsTrue is_same → node.now.height ≡ max node.now.left.height node.now.right.height + 1 }
+    requires law { IsTrue is_same → HeightLaw M.BLOCK node.now.height (length node.now.left.entries + length node.now.right.entries + 1) }
     ensures value { result ≡ max node.now.left.height node.now.right.height + 1 }
-    ensures left_law { HeightLaw M.BLOCK node.now.left.height (length node.now.left.entries) }
-    ensures right_law { HeightLaw M.BLOCK node.now.right.height (length node.now.right.entries) }
+    ensures law { IsBalanced (weight node.now.left.entries) (weight node.now.right.entries) → FillsNode M.BLOCK (length node.now.left.entries) (length node.now.right.entries) → HeightLaw M.BLOCK result (length node.now.left.entries + length node.now.right.entries + 1) }
 {
-    // For the proof alone: heights are small, by how many entries there are.
-    let _left_size = node.left.size();
-    let _right_size = node.right.size();
-    let left = node.left.height();
-    let right = node.right.height();
     if is_same {
         return node.height;
     }
-    let highest = left.max(right);
-    highest + 1
+    node.left.height().max(node.right.height()) + 1
 }
 
 /// Takes the base value of a new entry into the fold of a node, and makes its size and height what they are with it.
@@ -167,6 +173,7 @@ fn take_in<M: Shape, C: Ledger>(
     requires fold { NodeTakesIn M.Augment.Fits M.Augment.base_of M.Augment.unit_of M.Augment.combined node.old base.now }
     requires size { node.old.size ≡ length node.old.left.entries + length node.old.right.entries }
     requires height { IsTrue is_as_high → node.old.height ≡ max node.old.left.height node.old.right.height + 1 }
+    requires law { IsTrue is_as_high → HeightLaw M.BLOCK node.old.height (node.old.size + 1) }
     ensures node { IsRefreshed M.Augment.base_of M.Augment.unit_of M.Augment.combined M.BLOCK node.old.left node.old.key node.old.val node.old.right node.new }
     ensures cost { steps.new ≤ steps.old + 2 }
 {
@@ -195,6 +202,7 @@ pub(crate) fn refresh_after_put<M: Shape, C: Ledger>(
     requires fold { before.size < after.size → NodeTakesIn M.Augment.Fits M.Augment.base_of M.Augment.unit_of M.Augment.combined node.old base.now }
     requires size { before.size < after.size → node.old.size ≡ length node.old.left.entries + length node.old.right.entries }
     requires height { before.height ≡ after.height → node.old.height ≡ max node.old.left.height node.old.right.height + 1 }
+    requires law { HeightLaw M.BLOCK node.old.height (node.old.size + 1) }
     ensures node { IsRefreshed M.Augment.base_of M.Augment.unit_of M.Augment.combined M.BLOCK node.old.left node.old.key node.old.val node.old.right node.new }
     ensures cost { steps.new ≤ steps.old + 2 }
 {

@@ -112,3 +112,41 @@ fn changes<R: Abort>(rt: &R, alloc: Global) -> [(bool, u64); 3] {
 fn changes_take_one_path_and_puts_in_place_copy_nothing(rt: HostRuntime) {
     assert_eq!(rt; changes(&rt, rt.alloc()), [(true, 0); 3]);
 }
+
+/// The most combinations that a put in place of a new key takes, one into each of 63 stretches of the keys (not into the last block,
+/// which is full), and how many levels the map has.
+fn taken_in<'a, R: Abort, L: LeafMut<Counted<'a>, u64>, C: Ledger>(
+    rt: &R,
+    alloc: Global,
+    work: &'a Work,
+    steps: &mut Steps<C>,
+) -> (u64, u64) {
+    let mut map = evens::<R, L, 32, C>(rt, alloc, work, steps);
+    let mut most = 0;
+    for stretch in 0..63 {
+        work.take();
+        map.put_mut(alloc, Counted::new(128 * stretch + 65, work), 1, steps)
+            .expect(rt, "put");
+        most = most.max(work.take().combined);
+    }
+    (most, map.height() as u64 + 1)
+}
+
+fn taken_in_counted<R: Abort, C: Ledger>(rt: &R, alloc: Global, blank: Blank) -> (u64, u64)
+    requires { IsFresh C.name C.parts blank }
+{
+    let mut steps = Steps::<C>::start(blank);
+    let work = Work::new();
+    taken_in::<R, Block<'_>, C>(rt, alloc, &work, &mut steps)
+}
+
+fn new_keys<R: Abort>(rt: &R, alloc: Global) -> (u64, u64) {
+    taken_in_counted::<R, Brand>(rt, alloc, Blank::new(1))
+}
+
+// Sums commute, so the fold of each node on the way, and of the block, takes in the new entry as it is.
+#[test]
+fn a_put_in_place_of_a_new_key_takes_one_combination_a_level(rt: HostRuntime) {
+    let (most, levels) = new_keys(&rt, rt.alloc());
+    assert_eq!(rt; most, levels);
+}

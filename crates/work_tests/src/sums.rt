@@ -1,6 +1,7 @@
 //! The sum of a map's values, which counts how often sums are combined.
 ghost use Rattle.std.specs.Prelude.{◌≡◌, ◌+◌, ◌-◌, ◌^◌, ◌≤◌, min, IsTrue};
 ghost use Rattle.std.proofs.Common.{arith};
+ghost use Rattle.aug_monoid.specs.Commuting.{IsCommutativeOver};
 
 use crate::counted::Counted;
 use crate::work::Work;
@@ -104,6 +105,13 @@ impl<'a> Augment for Sums<'a> {
 
     fn is_total() -> bool
         ensures { IsTrue result → Unit {0} }
+    {
+        true
+    }
+
+    #[tactic(auto, using(crate::proofs::Commutes::sums_commute))]
+    fn commutes() -> bool
+        ensures { IsTrue result → IsCommutativeOver (λ n. n ≤ 2 ^ 64 - 1) (λ a b. min (a + b) (2 ^ 64 - 1)) }
     {
         true
     }

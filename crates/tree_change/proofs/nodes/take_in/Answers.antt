@@ -1,16 +1,17 @@
-use Rattle.std.proofs.Common.{refl, ◌∙◌, arith}
+use Rattle.std.proofs.Common.{◌≡◌, ◌+◌, length, refl, ◌∙◌, arith}
 use Rattle.tree_change.proofs.nodes.take_in.Goals as goal
 
 pub returns-clause-node : goal.returns-clause-node
 returns-clause-node g c =
+    let node = c.args.node.now in
+    let size_is : node.size + 1 ≡ length node.left.entries + length node.right.entries + 1 = omega (arith, c.requires.size) in
     record {
       left_is = refl;
       key_is = refl;
       val_is = refl;
       right_is = refl;
       fold_is = c.in-Ok.ensures.value ∙ c.requires.fold c.requires.alike;
-      size_is = omega (arith, c.requires.size);
+      size_is = size_is;
       height_is = c.height_after_put-height.ensures.value;
-      left_law = c.height_after_put-height.ensures.left_law;
-      right_law = c.height_after_put-height.ensures.right_law;
+      law = λ balanced filled. rw size_is (c.height_after_put-height.ensures.law balanced filled);
     }

@@ -1,12 +1,12 @@
 use Rattle.std.proofs.Common.{rules, ◌≡◌, ◌+◌, ◌*◌, ◌<◌, ◌≤◌, length, sym, ap, ◌∙◌, subst, arith}
 use Rattle.map_model.specs.Entries.{set}
-use Rattle.map_model.proofs.Cuts.{set_sizes}
+use Rattle.map_model.proofs.Cuts.{length-around, set_sizes}
 use Rattle.map_model.proofs.Lengths.{length-set}
 use Rattle.map_model.proofs.Splits.{IsIncreasing-set}
 use Rattle.tree_shape.specs.Top.{contents}
 use Rattle.tree_change.proofs.Changed.{by_outcome}
 use Rattle.tree_change.proofs.Costs.{level_changed, copied_cost, sought_cost}
-use Rattle.tree_change.proofs.Owned.{top_block, top_node, left_is_shorter, right_is_shorter, left_is_lower, right_is_lower, sides_fit}
+use Rattle.tree_change.proofs.Owned.{top_block, top_node, left_is_shorter, right_is_shorter, left_is_lower, right_is_lower, sides_fit, law_of_one_more}
 use Rattle.tree_change.proofs.PutNodes.{put_left_fits, put_right_fits, put_left_fold, put_right_fold, put_left_size, put_right_size, put_left, put_right, put_here}
 use Rattle.tree_change.proofs.puts.+put_in.Goals as goal
 use Rattle.tree_change.proofs.puts.+put_in.Goals.{then-place-via-then-place, then-place-via-else-place+then-len-BLOCK, in-Empty, in-Block+in_default, in-Node+in-Some-get_mut+in-Copy, in-Node+in_default-get_mut}
@@ -359,3 +359,35 @@ put_in_own_block-requires-clause-folded g t c =
     let a = g.M.Augment.Augment in
     let own = top_block g.M.Leaf.Leaf.entries g.M.Key.Ord.cmp a.base_of a.unit_of a.combined g.M.Shape.BLOCK c.args.part.tree.now c.in-Some.block.now c.in-Block.owner c.tree.inside.top c.in-Some.ensures.value c.in-Block.is c.tree.invariant c.tree.view_is in
     own.shape.fold_is
+
+pub way_of_put-requires-clause-size : goal.way_of_put-requires-clause-size
+way_of_put-requires-clause-size g t c =
+    let a = g.M.Augment.Augment in
+    let map = c.args.part.tree.now in
+    let node = c.in-Some-get_mut.node.now in
+    let own = top_node g.M.Leaf.Leaf.entries g.M.Key.Ord.cmp a.base_of a.unit_of a.combined g.M.Shape.BLOCK map node c.in-Node.owner c.tree.inside.top c.in-Some-get_mut.ensures.value c.in-Node.is c.tree.invariant c.tree.view_is in
+    own.shape.size_is ∙ length-around node.left.entries (node.key, node.val) node.right.entries
+
+pub way_of_put-requires-clause-fits : goal.way_of_put-requires-clause-fits
+way_of_put-requires-clause-fits g t c =
+    let a = g.M.Augment.Augment in
+    let map = c.args.part.tree.now in
+    let node = c.in-Some-get_mut.node.now in
+    let own = top_node g.M.Leaf.Leaf.entries g.M.Key.Ord.cmp a.base_of a.unit_of a.combined g.M.Shape.BLOCK map node c.in-Node.owner c.tree.inside.top c.in-Some-get_mut.ensures.value c.in-Node.is c.tree.invariant c.tree.view_is in
+    own.shape.size_fits
+
+pub refresh_after_put-requires-clause-law : goal.refresh_after_put-requires-clause-law
+refresh_after_put-requires-clause-law g t c =
+    let a = g.M.Augment.Augment in
+    let map = c.args.part.tree.now in
+    let node = c.in-Some-get_mut.node.now in
+    let own = top_node g.M.Leaf.Leaf.entries g.M.Key.Ord.cmp a.base_of a.unit_of a.combined g.M.Shape.BLOCK map node c.in-Node.owner c.tree.inside.top c.in-Some-get_mut.ensures.value c.in-Node.is c.tree.invariant c.tree.view_is in
+    law_of_one_more map node own
+
+pub refresh_after_put-requires-in-Right-clause-law : goal.refresh_after_put-requires-in-Right-clause-law
+refresh_after_put-requires-in-Right-clause-law g t c =
+    let a = g.M.Augment.Augment in
+    let map = c.args.part.tree.now in
+    let node = c.in-Some-get_mut.node.now in
+    let own = top_node g.M.Leaf.Leaf.entries g.M.Key.Ord.cmp a.base_of a.unit_of a.combined g.M.Shape.BLOCK map node c.in-Node.owner c.tree.inside.top c.in-Some-get_mut.ensures.value c.in-Node.is c.tree.invariant c.tree.view_is in
+    law_of_one_more map node own
