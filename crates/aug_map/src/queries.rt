@@ -70,6 +70,19 @@ impl<M: Shape> Map<M> {
         Map::from_tree(tree_query::aug_filter(alloc, &self.tree, test))
     }
 
+    /// `aug_filter` with its tests counted: each is a step, at most `1 + k * (3 * height + 2 * B)` where k entries pass.
+    pub fn aug_filter_counted<T: AugTest<M::Augment>, C: Ledger>(
+        &self,
+        alloc: Global,
+        test: &T,
+        tests: &mut Steps<C>,
+    ) -> Result<Map<M>, NoMemory>
+        ensures entries { IfOk result (λ map. map.entries ≡ aug_filter M.Augment.base_of (T.admits test.now) self.now.entries) }
+        ensures cost { tests.new ≤ tests.old + (1 + length (aug_filter M.Augment.base_of (T.admits test.now) self.now.entries) * (3 * self.now.height + 2 * M.BLOCK)) }
+    {
+        Map::from_tree(tree_query::aug_filter_counted(alloc, &self.tree, test, tests))
+    }
+
     /// The first entry whose base value passes; none exactly where no entry's does. It passes over each part whose fold fails the
     /// test, so it takes time in O(height + B) where a fold passes exactly when some entry below it does. It takes no memory where
     /// augmented values and the shares of keys and values take none.
@@ -84,6 +97,20 @@ impl<M: Shape> Map<M> {
         tree_query::first_where(alloc, &self.tree, test)
     }
 
+    /// `first_where` with its tests counted: each is a step, at most `3 * height + 2 * B + 1`.
+    pub fn first_where_counted<T: AugTest<M::Augment>, C: Ledger>(
+        &self,
+        alloc: Global,
+        test: &T,
+        tests: &mut Steps<C>,
+    ) -> Result<Option<(M::Key, M::Val)>, NoMemory>
+        ensures value { IfOk result (λ found. found ≡ select (aug_filter M.Augment.base_of (T.admits test.now) self.now.entries) 0) }
+        ensures succeeds { M.Augment.never_refuses → M.Key.never_refuses → M.Val.never_refuses → IsOk result }
+        ensures cost { tests.new ≤ tests.old + (3 * self.now.height + 2 * M.BLOCK + 1) }
+    {
+        tree_query::first_where_counted(alloc, &self.tree, test, tests)
+    }
+
     /// The image of the fold of the entries with keys from `lo` to `hi`, both included. It is combined from images of stored folds and
     /// of single entries; no two augmented values are combined. O(log n + B) images in a map of n entries.
     pub fn aug_project<P: Project<M::Augment>>(
@@ -96,6 +123,21 @@ impl<M: Shape> Map<M> {
         ensures { IfOk result (λ out. out ≡ project M.Key.cmp M.Augment.base_of M.Augment.unit_of M.Augment.combined (P.image_of how.now) self.now.entries lo.now hi.now) }
     {
         tree_query::aug_project(alloc, &self.tree, lo, hi, how)
+    }
+
+    /// `aug_project` with its images counted: each is a step, at most `4 * height + 4 * B + 1`.
+    pub fn aug_project_counted<P: Project<M::Augment>, C: Ledger>(
+        &self,
+        alloc: Global,
+        lo: &M::Key,
+        hi: &M::Key,
+        how: &P,
+        images: &mut Steps<C>,
+    ) -> Result<P::Out, NoMemory>
+        ensures value { IfOk result (λ out. out ≡ project M.Key.cmp M.Augment.base_of M.Augment.unit_of M.Augment.combined (P.image_of how.now) self.now.entries lo.now hi.now) }
+        ensures cost { images.new ≤ images.old + (4 * self.now.height + 4 * M.BLOCK + 1) }
+    {
+        tree_query::aug_project_counted(alloc, &self.tree, lo, hi, how, images)
     }
 
     /// How many keys are less than `key`, in at most `height + M::Leaf::FIND` steps. It takes no memory.

@@ -1,9 +1,9 @@
--- The steps that the fold of a range takes at a node.
+-- The steps that the fold of a range takes at a node, and the images of its projection.
 use Rattle.std.proofs.Common.{◌≡◌, ℕ, ◌+◌, ◌*◌, ◌<◌, ◌≤◌, false, arith}
 use Rattle.std.proofs.lemmas.Bool.{true≢false}
 use Rattle.tree_query.specs.declared.range.KeyRange.{KeyRange}
 use Rattle.tree_query.specs.declared.range.KeyRange.TheVariants.{All, AtMost, AtLeast, Between, Below, Above}
-use Rattle.tree_query.specs.Within.{is_all, left_part, right_part, fold_cost}
+use Rattle.tree_query.specs.Within.{is_all, left_part, right_part, fold_cost, image_cost}
 
 module _ {K : Type 0} (block side height : ℕ) (lower : side < height) where
   -- the range ends before the node's key, or begins after it
@@ -33,3 +33,41 @@ cost_block block count height short (AtLeast lo) some = omega arith
 cost_block block count height short (Between lo hi) some = omega arith
 cost_block block count height short (Below hi) some = omega arith
 cost_block block count height short (Above lo) some = omega arith
+
+module _ {K : Type 0} (block side height : ℕ) (lower : side < height) where
+  -- the range ends before the node's key, or begins after it
+  pub images_aside : (range : KeyRange K) → is_all range ≡ false → image_cost range side block ≤ image_cost range height block
+  images_aside All some = absurd (true≢false some)
+  images_aside (AtMost hi) some = omega arith
+  images_aside (AtLeast lo) some = omega arith
+  images_aside (Between lo hi) some = omega arith
+  images_aside (Below hi) some = omega arith
+  images_aside (Above lo) some = omega arith
+
+module _ {K : Type 0} (block left right height : ℕ) (left_lower : left < height) (right_lower : right < height) where
+  -- the key lies in the range
+  pub images_inside : (range : KeyRange K) → is_all range ≡ false → image_cost (left_part range) left block + image_cost (right_part range) right block + 1 ≤ image_cost range height block
+  images_inside All some = absurd (true≢false some)
+  images_inside (AtMost hi) some = omega arith
+  images_inside (AtLeast lo) some = omega arith
+  images_inside (Between lo hi) some = omega arith
+  images_inside (Below hi) some = omega arith
+  images_inside (Above lo) some = omega arith
+
+-- a block that the range does not have whole
+pub images_block : {K : Type 0} (block count height : ℕ) → count ≤ 2 * block → (range : KeyRange K) → is_all range ≡ false → count + 1 ≤ image_cost range height block
+images_block block count height short All some = absurd (true≢false some)
+images_block block count height short (AtMost hi) some = omega arith
+images_block block count height short (AtLeast lo) some = omega arith
+images_block block count height short (Between lo hi) some = omega arith
+images_block block count height short (Below hi) some = omega arith
+images_block block count height short (Above lo) some = omega arith
+
+-- any range takes an image
+pub images_some : {K : Type 0} (block height : ℕ) (range : KeyRange K) → 1 ≤ image_cost range height block
+images_some block height All = omega arith
+images_some block height (AtMost hi) = omega arith
+images_some block height (AtLeast lo) = omega arith
+images_some block height (Between lo hi) = omega arith
+images_some block height (Below hi) = omega arith
+images_some block height (Above lo) = omega arith

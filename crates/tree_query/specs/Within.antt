@@ -74,3 +74,12 @@ module _ {K : Type 0} where
   fold_cost (Between lo hi) height block = 8 * height + 12 * block
   fold_cost (Below hi) height block = 4 * height + 6 * block
   fold_cost (Above lo) height block = 4 * height + 6 * block
+
+  -- the most images that the projection of a range takes: one for a stored fold, else those beside one path and of one block for each end
+  abbrev pub image_cost : KeyRange K → ℕ → ℕ → ℕ
+  image_cost All height block = 1
+  image_cost (AtMost hi) height block = 2 * height + 2 * block + 1
+  image_cost (AtLeast lo) height block = 2 * height + 2 * block + 1
+  image_cost (Between lo hi) height block = 4 * height + 4 * block + 1
+  image_cost (Below hi) height block = 2 * height + 2 * block + 1
+  image_cost (Above lo) height block = 2 * height + 2 * block + 1

@@ -19,10 +19,10 @@ mod places;
 mod project;
 mod range;
 
-pub use filter::aug_filter;
-pub use finding::first_where;
+pub use filter::{aug_filter, aug_filter_counted};
+pub use finding::{first_where, first_where_counted};
 pub use folds::{aug_left, aug_range, aug_right};
 pub use neighbours::{next, prev};
 pub use parts::{above, at_least, below, slice};
 pub use places::{rank, select};
-pub use project::aug_project;
+pub use project::{aug_project, aug_project_counted};

@@ -1,8 +1,8 @@
 //! Images of the folds of ranges.
-ghost use Rattle.std.specs.Prelude.{◌≡◌, IfOk};
+ghost use Rattle.std.specs.Prelude.{◌≡◌, ◌+◌, ◌*◌, ◌≤◌, length, IfOk};
 ghost use Rattle.map_model.specs.Entries.{IsIncreasing};
 ghost use Rattle.map_model.specs.Fold.{fold_of, project};
-ghost use Rattle.tree_query.specs.Within.{within};
+ghost use Rattle.tree_query.specs.Within.{within, image_cost};
 ghost use Rattle.aug_monoid.specs.Fresh.{IsFresh};
 
 use crate::range::{KeyRange, Span};
@@ -12,8 +12,7 @@ use std::marker::Brand;
 use std::sync::ledger::{Blank, Ledger};
 use tree_shape::{Look, Shape, Tree};
 
-/// The image of the fold of the entries with keys from `lo` to `hi`, both included. It is combined from images of stored folds and
-/// of single entries, beside two paths and at most two blocks; no two augmented values are combined.
+/// `aug_project_counted` with a counter that is thrown away.
 pub fn aug_project<M: Shape, P: Project<M::Augment>>(
     alloc: Global,
     tree: &Tree<M>,
@@ -23,11 +22,11 @@ pub fn aug_project<M: Shape, P: Project<M::Augment>>(
 ) -> Result<P::Out, NoMemory>
     ensures { IfOk result (λ out. out ≡ project M.Key.cmp M.Augment.base_of M.Augment.unit_of M.Augment.combined (P.image_of how.now) tree.now.entries lo.now hi.now) }
 {
-    project_range::<M, P, Brand>(alloc, tree, lo, hi, how, Blank::new(1))
+    project_with_counter::<M, P, Brand>(alloc, tree, lo, hi, how, Blank::new(1))
 }
 
-/// The same, with a counter of its own.
-fn project_range<M: Shape, P: Project<M::Augment>, C: Ledger>(
+// The same, with a counter of its own.
+fn project_with_counter<M: Shape, P: Project<M::Augment>, C: Ledger>(
     alloc: Global,
     tree: &Tree<M>,
     lo: &M::Key,
@@ -38,50 +37,106 @@ fn project_range<M: Shape, P: Project<M::Augment>, C: Ledger>(
     requires { IsFresh C.name C.parts blank }
     ensures { IfOk result (λ out. out ≡ project M.Key.cmp M.Augment.base_of M.Augment.unit_of M.Augment.combined (P.image_of how.now) tree.now.entries lo.now hi.now) }
 {
-    let mut steps = Steps::<C>::start(blank);
+    let mut images = Steps::<C>::start(blank);
+    aug_project_counted(alloc, tree, lo, hi, how, &mut images)
+}
+
+/// The image of the fold of the entries with keys from `lo` to `hi`, both included. It is combined from images of stored folds and
+/// of single entries, beside two paths and of at most two blocks; no two augmented values are combined. Each image is a step, and
+/// no other is counted: at most `4 * height + 4 * M::BLOCK + 1`.
+pub fn aug_project_counted<M: Shape, P: Project<M::Augment>, C: Ledger>(
+    alloc: Global,
+    tree: &Tree<M>,
+    lo: &M::Key,
+    hi: &M::Key,
+    how: &P,
+    images: &mut Steps<C>,
+) -> Result<P::Out, NoMemory>
+    ensures value { IfOk result (λ out. out ≡ project M.Key.cmp M.Augment.base_of M.Augment.unit_of M.Augment.combined (P.image_of how.now) tree.now.entries lo.now hi.now) }
+    ensures cost { images.new ≤ images.old + (4 * tree.now.height + 4 * M.BLOCK + 1) }
+{
+    project_comparing::<M, P, C, Brand>(alloc, tree, lo, hi, how, images, Blank::new(1))
+}
+
+// The same, with a counter of its own for what is compared.
+fn project_comparing<M: Shape, P: Project<M::Augment>, C: Ledger, D: Ledger>(
+    alloc: Global,
+    tree: &Tree<M>,
+    lo: &M::Key,
+    hi: &M::Key,
+    how: &P,
+    images: &mut Steps<C>,
+    blank: Blank,
+) -> Result<P::Out, NoMemory>
+    requires { IsFresh D.name D.parts blank }
+    ensures value { IfOk result (λ out. out ≡ project M.Key.cmp M.Augment.base_of M.Augment.unit_of M.Augment.combined (P.image_of how.now) tree.now.entries lo.now hi.now) }
+    ensures cost { images.new ≤ images.old + (4 * tree.now.height + 4 * M.BLOCK + 1) }
+{
+    let mut steps = Steps::<D>::start(blank);
     let range = KeyRange::Between { lo, hi };
-    project_span(alloc, Span { tree, range }, how, &mut steps)
+    project_span(alloc, Span { tree, range }, how, images, &mut steps)
+}
+
+/// The image of an augmented value, in one step. A projection takes images here alone.
+#[inline(always)]
+fn imaged<A: Augment, P: Project<A>, C: Ledger>(
+    alloc: Global,
+    aug: &A::Aug,
+    how: &P,
+    images: &mut Steps<C>,
+) -> Result<P::Out, NoMemory>
+    ensures value { IfOk result (λ out. out ≡ P.image_of how.now aug.now) }
+    ensures one_step { images.new ≡ images.old + 1 }
+{
+    images.tick();
+    how.image(alloc, aug)
 }
 
 /// The image of the stored fold of all entries.
-fn project_whole<M: Shape, P: Project<M::Augment>>(
+fn project_whole<M: Shape, P: Project<M::Augment>, C: Ledger>(
     alloc: Global,
     tree: &Tree<M>,
     how: &P,
+    images: &mut Steps<C>,
 ) -> Result<P::Out, NoMemory>
-    ensures { IfOk result (λ out. out ≡ P.image_of how.now (fold_of M.Augment.base_of M.Augment.unit_of M.Augment.combined tree.now.entries)) }
+    ensures value { IfOk result (λ out. out ≡ P.image_of how.now (fold_of M.Augment.base_of M.Augment.unit_of M.Augment.combined tree.now.entries)) }
+    ensures one_step { images.new ≡ images.old + 1 }
 {
     match tree.aug() {
-        Some(fold) => how.image(alloc, fold),
-        None => how.image(alloc, &<M::Augment>::unit()),
+        Some(fold) => imaged::<M::Augment, P, C>(alloc, fold, how, images),
+        None => imaged::<M::Augment, P, C>(alloc, &<M::Augment>::unit(), how, images),
     }
 }
 
 /// The image of one entry's augmented value.
-fn project_entry<A: Augment, P: Project<A>>(
+fn project_entry<A: Augment, P: Project<A>, C: Ledger>(
     alloc: Global,
     key: &A::Key,
     val: &A::Val,
     how: &P,
+    images: &mut Steps<C>,
 ) -> Result<P::Out, NoMemory>
-    ensures { IfOk result (λ out. out ≡ P.image_of how.now (A.base_of key.now val.now)) }
+    ensures value { IfOk result (λ out. out ≡ P.image_of how.now (A.base_of key.now val.now)) }
+    ensures cost { images.new ≤ images.old + 1 }
 {
     let base = A::base(alloc, key, val)?;
-    how.image(alloc, &base)
+    imaged::<A, P, C>(alloc, &base, how, images)
 }
 
 /// The image for the entries of a leaf in a range, in one walk that ends behind the range.
-fn project_block<A: Augment, L: Leaf<A::Key, A::Val>, P: Project<A>, C: Ledger>(
+fn project_block<A: Augment, L: Leaf<A::Key, A::Val>, P: Project<A>, C: Ledger, D: Ledger>(
     alloc: Global,
     leaf: &L,
     range: &KeyRange<'_, A::Key>,
     how: &P,
-    steps: &mut Steps<C>,
+    images: &mut Steps<C>,
+    steps: &mut Steps<D>,
 ) -> Result<P::Out, NoMemory>
     requires { IsIncreasing A.Key.cmp (L.entries leaf.now) }
-    ensures { IfOk result (λ out. out ≡ P.image_of how.now (fold_of A.base_of A.unit_of A.combined (within A.Key.cmp range.now (L.entries leaf.now)))) }
+    ensures value { IfOk result (λ out. out ≡ P.image_of how.now (fold_of A.base_of A.unit_of A.combined (within A.Key.cmp range.now (L.entries leaf.now)))) }
+    ensures cost { images.new ≤ images.old + (length (L.entries leaf.now) + 1) }
 {
-    let mut out = how.image(alloc, &A::unit())?;
+    let mut out = imaged::<A, P, C>(alloc, &A::unit(), how, images)?;
     let mut walk = leaf.walk();
     for _at in 0..leaf.len() {
         let Some(entry) = leaf.walk_next(&mut walk) else {
@@ -94,45 +149,49 @@ fn project_block<A: Augment, L: Leaf<A::Key, A::Val>, P: Project<A>, C: Ledger>(
         if range.begins_after(key, steps) {
             continue;
         }
-        let image = project_entry::<A, P>(alloc, key, entry.val(), how)?;
+        let image = project_entry::<A, P, C>(alloc, key, entry.val(), how, images)?;
         out = how.combine(alloc, out, image)?;
     }
     Ok(out)
 }
 
 /// The image for what stands before an entry, the entry, and what stands behind it.
-fn combine_around<A: Augment, P: Project<A>>(
+fn combine_around<A: Augment, P: Project<A>, C: Ledger>(
     alloc: Global,
     front: P::Out,
     key: &A::Key,
     val: &A::Val,
     back: P::Out,
     how: &P,
+    images: &mut Steps<C>,
 ) -> Result<P::Out, NoMemory>
-    ensures { IfOk result (λ out. out ≡ P.combined how.now front (P.combined how.now (P.image_of how.now (A.base_of key.now val.now)) back)) }
+    ensures value { IfOk result (λ out. out ≡ P.combined how.now front (P.combined how.now (P.image_of how.now (A.base_of key.now val.now)) back)) }
+    ensures cost { images.new ≤ images.old + 1 }
 {
-    let middle = project_entry::<A, P>(alloc, key, val, how)?;
+    let middle = project_entry::<A, P, C>(alloc, key, val, how, images)?;
     let behind = how.combine(alloc, middle, back)?;
     how.combine(alloc, front, behind)
 }
 
 /// The image for the entries in a range.
-fn project_span<M: Shape, P: Project<M::Augment>, C: Ledger>(
+fn project_span<M: Shape, P: Project<M::Augment>, C: Ledger, D: Ledger>(
     alloc: Global,
     span: Span<'_, M>,
     how: &P,
-    steps: &mut Steps<C>,
+    images: &mut Steps<C>,
+    steps: &mut Steps<D>,
 ) -> Result<P::Out, NoMemory>
-    ensures { IfOk result (λ out. out ≡ P.image_of how.now (fold_of M.Augment.base_of M.Augment.unit_of M.Augment.combined (within M.Key.cmp span.entry.range span.entry.tree.now.entries))) }
+    ensures value { IfOk result (λ out. out ≡ P.image_of how.now (fold_of M.Augment.base_of M.Augment.unit_of M.Augment.combined (within M.Key.cmp span.entry.range span.entry.tree.now.entries))) }
+    ensures cost { images.new ≤ images.old + image_cost span.entry.range span.entry.tree.now.height M.BLOCK }
 {
     let Span { tree, range } = span;
     if range.is_all() {
-        return project_whole(alloc, tree, how);
+        return project_whole(alloc, tree, how, images);
     }
     match tree.look() {
-        Look::Empty => how.image(alloc, &<M::Augment>::unit()),
-        Look::Block { leaf } => project_block::<M::Augment, M::Leaf, P, C>(
-            alloc, leaf, &range, how, steps,
+        Look::Empty => imaged::<M::Augment, P, C>(alloc, &<M::Augment>::unit(), how, images),
+        Look::Block { leaf } => project_block::<M::Augment, M::Leaf, P, C, D>(
+            alloc, leaf, &range, how, images, steps,
         ),
         Look::Node {
             left,
@@ -141,10 +200,10 @@ fn project_span<M: Shape, P: Project<M::Augment>, C: Ledger>(
             right,
         } => {
             if range.ends_before(key, steps) {
-                return project_span(alloc, Span { tree: left, range }, how, steps);
+                return project_span(alloc, Span { tree: left, range }, how, images, steps);
             }
             if range.begins_after(key, steps) {
-                return project_span(alloc, Span { tree: right, range }, how, steps);
+                return project_span(alloc, Span { tree: right, range }, how, images, steps);
             }
             let low = Span {
                 tree: left,
@@ -154,9 +213,9 @@ fn project_span<M: Shape, P: Project<M::Augment>, C: Ledger>(
                 tree: right,
                 range: range.right_part(),
             };
-            let front = project_span(alloc, low, how, steps)?;
-            let back = project_span(alloc, high, how, steps)?;
-            combine_around::<M::Augment, P>(alloc, front, key, val, back, how)
+            let front = project_span(alloc, low, how, images, steps)?;
+            let back = project_span(alloc, high, how, images, steps)?;
+            combine_around::<M::Augment, P, C>(alloc, front, key, val, back, how, images)
         }
     }
 }

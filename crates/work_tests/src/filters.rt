@@ -63,10 +63,10 @@ fn kept<R: Abort, L: Leaf<u64, u64>, const B: usize>(
     };
     let kept = map.aug_filter(alloc, &test).expect(rt, "memory").size();
     let looked = test.looked.load(Ordering::SeqCst);
-    let path = map.height() as u64 + B as u64 + 1;
+    let beside = 3 * map.height() as u64 + 2 * B as u64;
     (
         kept,
-        looked <= kept.saturating_add(1).saturating_mul(4 * path),
+        looked <= kept.saturating_mul(beside).saturating_add(1),
     )
 }
 
@@ -96,8 +96,8 @@ fn found<R: Abort, L: Leaf<u64, u64>, const B: usize>(
     };
     let first = map.first_where(alloc, &test).expect(rt, "memory");
     let looked = test.looked.load(Ordering::SeqCst);
-    let path = map.height() as u64 + B as u64 + 1;
-    (first.map(|entry| entry.0), looked <= 4 * path)
+    let path = 3 * map.height() as u64 + 2 * B as u64 + 1;
+    (first.map(|entry| entry.0), looked <= path)
 }
 
 /// Asserts what `found` answers in blocks of a kind.

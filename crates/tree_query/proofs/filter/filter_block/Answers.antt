@@ -12,32 +12,42 @@ loop-at-preserved-then-not-passes g c =
     let admits = g.T.AugTest.admits c.args.test.now in
     let entries = g.L.Leaf.entries c.args.leaf.now in
     let e : g.row.A-Key.Denot × g.row.A-Val.Denot = entry_of c.in-Some.entry in
-    let entry : slice_get entries c.loop-at._at ≡ Some (entry_of c.in-Some.entry) = sym (rw c.loop-at.invariant.1 at c.walk_next.ensures.value) ∙ ap (option_map entry_of) c.in-Some.is in
+    let entry : slice_get entries c.loop-at._at ≡ Some (entry_of c.in-Some.entry) = sym (rw c.loop-at.invariant.here at c.walk_next.ensures.value) ∙ ap (option_map entry_of) c.in-Some.is in
     let fails : admits (g.A.Augment.base_of (entry_of c.in-Some.entry).0 (entry_of c.in-Some.entry).1) ≡ false = sym (rw (c.key.ensures, c.val.ensures) at c.in_ok-passes.ensures.value) ∙ c.if-not-passes.true in
     let before = aug_filter g.A.Augment.base_of admits (take c.loop-at._at entries) in
     let more = filter_more entries c.loop-at._at e entry (λ d. admits (g.A.Augment.base_of d.0 d.1)) ∙ ap (λ b. before ++ cond b (e ∷ []) []) fails ∙ append-nil before in
-    (c.loop-at.invariant.0 ∙ sym more, search rules, search rules)
+    record {
+      kept = c.loop-at.invariant.kept ∙ sym more;
+      here = search rules;
+      fits = search rules;
+      cost = omega (arith, c.loop-at.invariant.cost, c.in_ok-passes.ensures.cost);
+    }
 
 pub loop-at-preserved : goal.loop-at-preserved
 loop-at-preserved g c =
     let admits = g.T.AugTest.admits c.args.test.now in
     let entries = g.L.Leaf.entries c.args.leaf.now in
     let e : g.row.A-Key.Denot × g.row.A-Val.Denot = entry_of c.in-Some.entry in
-    let entry : slice_get entries c.loop-at._at ≡ Some (entry_of c.in-Some.entry) = sym (rw c.loop-at.invariant.1 at c.walk_next.ensures.value) ∙ ap (option_map entry_of) c.in-Some.is in
+    let entry : slice_get entries c.loop-at._at ≡ Some (entry_of c.in-Some.entry) = sym (rw c.loop-at.invariant.here at c.walk_next.ensures.value) ∙ ap (option_map entry_of) c.in-Some.is in
     let passes : admits (g.A.Augment.base_of (entry_of c.in-Some.entry).0 (entry_of c.in-Some.entry).1) ≡ true = sym (rw (c.key.ensures, c.val.ensures) at c.in_ok-passes.ensures.value) ∙ c.if-not-passes.false in
     let before = aug_filter g.A.Augment.base_of admits (take c.loop-at._at entries) in
     let more = filter_more entries c.loop-at._at e entry (λ d. admits (g.A.Augment.base_of d.0 d.1)) ∙ ap (λ b. before ++ cond b (e ∷ []) []) passes in
-    (rw c.in_ok-into_entry.ensures.value at c.in_ok-push.ensures.items ∙ ap (λ m. m ++ e ∷ []) c.loop-at.invariant.0 ∙ sym more, search rules, search rules)
+    record {
+      kept = rw c.in_ok-into_entry.ensures.value at c.in_ok-push.ensures.items ∙ ap (λ m. m ++ e ∷ []) c.loop-at.invariant.kept ∙ sym more;
+      here = search rules;
+      fits = search rules;
+      cost = omega (arith, c.loop-at.invariant.cost, c.in_ok-passes.ensures.cost);
+    }
 
 pub unreachable-requires : goal.unreachable-requires
 unreachable-requires g c =
     let entries = g.L.Leaf.entries c.args.leaf.now in
-    let none : slice_get entries c.loop-at._at ≡ None = sym (rw c.loop-at.invariant.1 at c.walk_next.ensures.value) ∙ ap (option_map entry_of) c.in_default.is in
+    let none : slice_get entries c.loop-at._at ≡ None = sym (rw c.loop-at.invariant.here at c.walk_next.ensures.value) ∙ ap (option_map entry_of) c.in_default.is in
     omega (arith, none_past entries c.loop-at._at none, c.loop-at-test.true, c.len-at-end.ensures.value)
 
-pub returns : goal.returns
-returns g c =
+pub returns-clause-kept : goal.returns-clause-kept
+returns-clause-kept g c =
     let admits = g.T.AugTest.admits c.args.test.now in
     let entries = g.L.Leaf.entries c.args.leaf.now in
     let whole = take_all c.loop-at._at entries (omega (arith, c.loop-at-test.false, c.len-at-end.ensures.value)) in
-    c.loop-at.invariant.0 ∙ ap (aug_filter g.A.Augment.base_of admits) whole
+    c.loop-at.invariant.kept ∙ ap (aug_filter g.A.Augment.base_of admits) whole

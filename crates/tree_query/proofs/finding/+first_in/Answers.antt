@@ -3,6 +3,7 @@ use Rattle.std.specs.List.{filter}
 use Rattle.std.proofs.lemmas.Result.{IfOk-weaker}
 use Rattle.tree_query.proofs.Sides.{left_shorter, right_shorter}
 use Rattle.tree_query.proofs.Firsts.{first_here, first_left, first_right, none_first}
+use Rattle.tree_query.proofs.FoldTests.{none_missed}
 use Rattle.tree_query.proofs.finding.+first_in.Goals as goal
 
 pub returns-in-Some-clause-value : goal.returns-in-Some-clause-value
@@ -40,10 +41,16 @@ first_in-requires-in-None g t c κs within =
     search rules
 
 pub returns-then-fails_whole-clause-value : goal.returns-then-fails_whole-clause-value
-returns-then-fails_whole-clause-value g t c = rw (c.fails_whole.ensures c.if-fails_whole.true) refl
+returns-then-fails_whole-clause-value g t c = rw (c.fails_whole.ensures.none c.if-fails_whole.true) refl
 
 pub returns-in-Empty-clause-value : goal.returns-in-Empty-clause-value
 returns-in-Empty-clause-value g t c = rw c.in-Empty.ensures.top refl
 
 pub returns-in-Block-clause-value : goal.returns-in-Block-clause-value
 returns-in-Block-clause-value g t c = rw c.in-Block.ensures.top.entries_are c.first_in_block.ensures.value
+
+pub returns-in-Block-clause-missed : goal.returns-in-Block-clause-missed
+returns-in-Block-clause-missed g t c = none_missed _ _ _ (c.fails_whole.ensures.some c.if-fails_whole.false) (returns-in-Block-clause-value g t c)
+
+pub returns-else-branch-clause-missed : goal.returns-else-branch-clause-missed
+returns-else-branch-clause-missed g t c = none_missed _ _ _ (c.fails_whole.ensures.some c.if-fails_whole.false) (returns-else-branch-clause-value g t c)

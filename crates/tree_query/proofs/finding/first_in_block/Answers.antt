@@ -27,6 +27,7 @@ loop-at-preserved g c =
     let fails : p e ≡ false = sym (rw (c.key.ensures, c.val.ensures) at c.in_ok-entry_passes.ensures.value) ∙ c.if-branch.false in
     record {
       none = filter_more entries c.loop-at._at e entry p ∙ ap (λ m. m ++ cond (p e) (e ∷ []) []) c.loop-at.invariant.none ∙ ap (λ b. cond b (e ∷ []) []) fails;
+      cost = omega (arith, c.loop-at.invariant.cost, c.in_ok-entry_passes.ensures.cost);
       here = search rules;
       fits = search rules;
     }

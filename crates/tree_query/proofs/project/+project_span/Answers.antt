@@ -1,48 +1,49 @@
-use Rattle.std.proofs.Common.{sym, ap, ap₂, ◌∙◌, ◌<◌, length, rules}
+use Rattle.std.proofs.Common.{◌≡◌, false, sym, ap, ap₂, ◌∙◌, ◌<◌, length, rules, arith}
 use Rattle.std.proofs.lemmas.Result.{IfOk-weaker}
 use Rattle.map_model.specs.Fold.{fold_of}
-use Rattle.tree_query.specs.Within.{within}
+use Rattle.tree_query.specs.Within.{is_all, within}
+use Rattle.tree_query.proofs.Costs.{images_aside, images_inside, images_block, images_some}
 use Rattle.tree_query.proofs.Sides.{left_shorter, right_shorter}
 use Rattle.tree_query.proofs.Ranges.{within-whole, within-before, within-after}
 use Rattle.tree_query.proofs.Nodes.{image_inside}
 use Rattle.tree_query.proofs.project.+project_span.Goals as goal
 
-pub returns-then-is_all : goal.returns-then-is_all
-returns-then-is_all g t c =
+pub returns-then-is_all-clause-value : goal.returns-then-is_all-clause-value
+returns-then-is_all-clause-value g t c =
     let augment = g.M.Augment.Augment in
     let whole = within-whole g.M.Key.Ord.cmp c.args.span.range c.args.span.tree.now.entries (sym c.is_all.ensures ∙ c.if-is_all.true) in
-    IfOk-weaker c.project_whole.result _ _ (λ x h. h ∙ ap (λ m. g.P.Project.image_of c.args.how.now (fold_of augment.base_of augment.unit_of augment.combined m)) (sym whole)) c.project_whole.ensures
+    IfOk-weaker c.project_whole.result _ _ (λ x h. h ∙ ap (λ m. g.P.Project.image_of c.args.how.now (fold_of augment.base_of augment.unit_of augment.combined m)) (sym whole)) c.project_whole.ensures.value
 
-pub returns-then-ends_before : goal.returns-then-ends_before
-returns-then-ends_before g t c =
+pub returns-then-ends_before-clause-value : goal.returns-then-ends_before-clause-value
+returns-then-ends_before-clause-value g t c =
     let augment = g.M.Augment.Augment in
     let node = c.in-Node.ensures.top in
     let part = ap (within g.M.Key.Ord.cmp c.args.span.range) node.entries_are ∙ within-before g.met.M.Key.Ord.total c.args.span.range c.in-Node.left.now.entries c.in-Node.key.now c.in-Node.val.now c.in-Node.right.now.entries node.increasing (sym c.ends_before.ensures.value ∙ c.if-ends_before.true) in
-    IfOk-weaker c.project_span.result _ _ (λ x h. h ∙ ap (λ m. g.P.Project.image_of c.args.how.now (fold_of augment.base_of augment.unit_of augment.combined m)) (sym part)) c.project_span.ensures
+    IfOk-weaker c.project_span.result _ _ (λ x h. h ∙ ap (λ m. g.P.Project.image_of c.args.how.now (fold_of augment.base_of augment.unit_of augment.combined m)) (sym part)) c.project_span.ensures.value
 
-pub returns-then-begins_after : goal.returns-then-begins_after
-returns-then-begins_after g t c =
+pub returns-then-begins_after-clause-value : goal.returns-then-begins_after-clause-value
+returns-then-begins_after-clause-value g t c =
     let augment = g.M.Augment.Augment in
     let node = c.in-Node.ensures.top in
     let part = ap (within g.M.Key.Ord.cmp c.args.span.range) node.entries_are ∙ within-after g.met.M.Key.Ord.total c.args.span.range c.in-Node.left.now.entries c.in-Node.key.now c.in-Node.val.now c.in-Node.right.now.entries node.increasing (sym c.begins_after.ensures.value ∙ c.if-begins_after.true) in
-    IfOk-weaker c.project_span-then-begins_after.result _ _ (λ x h. h ∙ ap (λ m. g.P.Project.image_of c.args.how.now (fold_of augment.base_of augment.unit_of augment.combined m)) (sym part)) c.project_span-then-begins_after.ensures
+    IfOk-weaker c.project_span-then-begins_after.result _ _ (λ x h. h ∙ ap (λ m. g.P.Project.image_of c.args.how.now (fold_of augment.base_of augment.unit_of augment.combined m)) (sym part)) c.project_span-then-begins_after.ensures.value
 
-pub returns-in_ok-back-in-Node : goal.returns-in_ok-back-in-Node
-returns-in_ok-back-in-Node g t c =
+pub returns-in_ok-back-in-Node-clause-value : goal.returns-in_ok-back-in-Node-clause-value
+returns-in_ok-back-in-Node-clause-value g t c =
     let law = g.met.M.Augment.Augment in
     let image = g.P.Project.image_of c.args.how.now in
     let combined = g.P.Project.combined c.args.how.now in
     let node = c.in-Node.ensures.top in
-    let front = rw c.left_part.ensures at c.in_ok-front-in-Node.ensures in
-    let back = rw c.right_part.ensures at c.in_ok-back-in-Node.ensures in
+    let front = rw c.left_part.ensures at c.in_ok-front-in-Node.ensures.value in
+    let back = rw c.right_part.ensures at c.in_ok-back-in-Node.ensures.value in
     let parts = image_inside g.met.M.Key.Ord.total law.monoid law.base_fits image combined (g.met.P.Project.projection c.args.how.now) c.args.span.range c.args.span.tree.now.entries c.in-Node.left.now.entries c.in-Node.key.now c.in-Node.val.now c.in-Node.right.now.entries node.entries_are node.increasing (sym c.ends_before.ensures.value ∙ c.if-ends_before.false) (sym c.begins_after.ensures.value ∙ c.if-begins_after.false) in
-    IfOk-weaker c.combine_around.result _ _ (λ x h. h ∙ ap₂ (λ l r. combined l (combined (image (g.M.Augment.Augment.base_of c.in-Node.key.now c.in-Node.val.now)) r)) front back ∙ sym parts) c.combine_around.ensures
+    IfOk-weaker c.combine_around.result _ _ (λ x h. h ∙ ap₂ (λ l r. combined l (combined (image (g.M.Augment.Augment.base_of c.in-Node.key.now c.in-Node.val.now)) r)) front back ∙ sym parts) c.combine_around.ensures.value
 
-pub returns-in-Empty : goal.returns-in-Empty
-returns-in-Empty g t c = rw c.in-Empty.ensures.top (rw c.unit.ensures at c.image.ensures)
+pub returns-in-Empty-clause-value : goal.returns-in-Empty-clause-value
+returns-in-Empty-clause-value g t c = rw c.in-Empty.ensures.top (rw c.unit.ensures at c.imaged.ensures.value)
 
-pub returns-in-Block : goal.returns-in-Block
-returns-in-Block g t c = rw c.in-Block.ensures.top.entries_are c.project_block.ensures
+pub returns-in-Block-clause-value : goal.returns-in-Block-clause-value
+returns-in-Block-clause-value g t c = rw c.in-Block.ensures.top.entries_are c.project_block.ensures.value
 
 pub project_span-requires : goal.project_span-requires
 project_span-requires g t c κs within =
@@ -63,3 +64,53 @@ pub project_span-requires-in-Node-2 : goal.project_span-requires-in-Node-2
 project_span-requires-in-Node-2 g t c κs within =
     let shorter : length c.in-Node.right.now.entries < length c.args.span.tree.now.entries = right_shorter _ _ _ _ c.in-Node.ensures.top.entries_are in
     search rules
+
+pub returns-then-is_all-clause-cost : goal.returns-then-is_all-clause-cost
+returns-then-is_all-clause-cost g t c =
+    omega (arith, images_some g.M.Shape.BLOCK c.args.span.tree.now.height c.args.span.range, c.project_whole.ensures.one_step)
+
+pub returns-in-Empty-clause-cost : goal.returns-in-Empty-clause-cost
+returns-in-Empty-clause-cost g t c =
+    omega (arith, images_some g.M.Shape.BLOCK c.args.span.tree.now.height c.args.span.range, c.imaged.ensures.one_step)
+
+pub returns-in-Block-clause-cost : goal.returns-in-Block-clause-cost
+returns-in-Block-clause-cost g t c =
+    let block = c.in-Block.ensures.top in
+    let some : is_all c.args.span.range ≡ false = sym c.is_all.ensures ∙ c.if-is_all.false in
+    omega (arith, images_block g.M.Shape.BLOCK (length (g.M.Leaf.Leaf.entries c.in-Block.leaf.now)) c.args.span.tree.now.height block.short c.args.span.range some, c.project_block.ensures.cost)
+
+pub returns-then-ends_before-clause-cost : goal.returns-then-ends_before-clause-cost
+returns-then-ends_before-clause-cost g t c =
+    let some : is_all c.args.span.range ≡ false = sym c.is_all.ensures ∙ c.if-is_all.false in
+    let lower : c.in-Node.left.now.height < c.args.span.tree.now.height = omega (arith, c.in-Node.ensures.top.height_is) in
+    omega (arith, images_aside g.M.Shape.BLOCK c.in-Node.left.now.height c.args.span.tree.now.height lower c.args.span.range some, c.project_span.ensures.cost)
+
+pub returns-then-begins_after-clause-cost : goal.returns-then-begins_after-clause-cost
+returns-then-begins_after-clause-cost g t c =
+    let some : is_all c.args.span.range ≡ false = sym c.is_all.ensures ∙ c.if-is_all.false in
+    let lower : c.in-Node.right.now.height < c.args.span.tree.now.height = omega (arith, c.in-Node.ensures.top.height_is) in
+    omega (arith, images_aside g.M.Shape.BLOCK c.in-Node.right.now.height c.args.span.tree.now.height lower c.args.span.range some, c.project_span-then-begins_after.ensures.cost)
+
+pub returns-in_err-front-in-Node-clause-cost : goal.returns-in_err-front-in-Node-clause-cost
+returns-in_err-front-in-Node-clause-cost g t c =
+    let some : is_all c.args.span.range ≡ false = sym c.is_all.ensures ∙ c.if-is_all.false in
+    let left_lower : c.in-Node.left.now.height < c.args.span.tree.now.height = omega (arith, c.in-Node.ensures.top.height_is) in
+    let right_lower : c.in-Node.right.now.height < c.args.span.tree.now.height = omega (arith, c.in-Node.ensures.top.height_is) in
+    let sides = images_inside g.M.Shape.BLOCK c.in-Node.left.now.height c.in-Node.right.now.height c.args.span.tree.now.height left_lower right_lower c.args.span.range some in
+    omega (arith, sides, rw c.left_part.ensures at c.in_err-front-in-Node.ensures.cost)
+
+pub returns-in_err-back-in-Node-clause-cost : goal.returns-in_err-back-in-Node-clause-cost
+returns-in_err-back-in-Node-clause-cost g t c =
+    let some : is_all c.args.span.range ≡ false = sym c.is_all.ensures ∙ c.if-is_all.false in
+    let left_lower : c.in-Node.left.now.height < c.args.span.tree.now.height = omega (arith, c.in-Node.ensures.top.height_is) in
+    let right_lower : c.in-Node.right.now.height < c.args.span.tree.now.height = omega (arith, c.in-Node.ensures.top.height_is) in
+    let sides = images_inside g.M.Shape.BLOCK c.in-Node.left.now.height c.in-Node.right.now.height c.args.span.tree.now.height left_lower right_lower c.args.span.range some in
+    omega (arith, sides, rw c.left_part.ensures at c.in_ok-front-in-Node.ensures.cost, rw c.right_part.ensures at c.in_err-back-in-Node.ensures.cost)
+
+pub returns-in_ok-back-in-Node-clause-cost : goal.returns-in_ok-back-in-Node-clause-cost
+returns-in_ok-back-in-Node-clause-cost g t c =
+    let some : is_all c.args.span.range ≡ false = sym c.is_all.ensures ∙ c.if-is_all.false in
+    let left_lower : c.in-Node.left.now.height < c.args.span.tree.now.height = omega (arith, c.in-Node.ensures.top.height_is) in
+    let right_lower : c.in-Node.right.now.height < c.args.span.tree.now.height = omega (arith, c.in-Node.ensures.top.height_is) in
+    let sides = images_inside g.M.Shape.BLOCK c.in-Node.left.now.height c.in-Node.right.now.height c.args.span.tree.now.height left_lower right_lower c.args.span.range some in
+    omega (arith, sides, rw c.left_part.ensures at c.in_ok-front-in-Node.ensures.cost, rw c.right_part.ensures at c.in_ok-back-in-Node.ensures.cost, c.combine_around.ensures.cost)

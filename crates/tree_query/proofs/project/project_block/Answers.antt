@@ -8,39 +8,58 @@ use Rattle.tree_query.specs.Within.{within}
 use Rattle.tree_query.proofs.Walks.{image_more, within_same, within_ended, none_past}
 use Rattle.tree_query.proofs.project.project_block.Goals as goal
 
-pub returns-then-ends_before : goal.returns-then-ends_before
-returns-then-ends_before g c =
+pub returns-then-ends_before-clause-value : goal.returns-then-ends_before-clause-value
+returns-then-ends_before-clause-value g c =
     let augment = g.A.Augment in
     let entries = g.L.Leaf.entries c.args.leaf.now in
-    let entry : slice_get entries c.loop-at._at ≡ Some (entry_of c.in-Some.entry) = sym (rw c.loop-at.invariant.1 at c.walk_next.ensures.value) ∙ ap (option_map entry_of) c.in-Some.is in
-    c.loop-at.invariant.0 ∙ ap (λ m. g.P.Project.image_of c.args.how.now (fold_of augment.base_of augment.unit_of augment.combined m)) (sym (within_ended g.met.A.Key.Ord.total c.args.range.now entries c.loop-at._at (entry_of c.in-Some.entry).0 (entry_of c.in-Some.entry).1 entry c.requires (sym (rw c.key-key.ensures at c.ends_before.ensures.value) ∙ c.if-ends_before.true)))
+    let entry : slice_get entries c.loop-at._at ≡ Some (entry_of c.in-Some.entry) = sym (rw c.loop-at.invariant.here at c.walk_next.ensures.value) ∙ ap (option_map entry_of) c.in-Some.is in
+    c.loop-at.invariant.out ∙ ap (λ m. g.P.Project.image_of c.args.how.now (fold_of augment.base_of augment.unit_of augment.combined m)) (sym (within_ended g.met.A.Key.Ord.total c.args.range.now entries c.loop-at._at (entry_of c.in-Some.entry).0 (entry_of c.in-Some.entry).1 entry c.requires (sym (rw c.key-key.ensures at c.ends_before.ensures.value) ∙ c.if-ends_before.true)))
 
 pub loop-at-preserved-then-begins_after : goal.loop-at-preserved-then-begins_after
 loop-at-preserved-then-begins_after g c =
     let augment = g.A.Augment in
     let entries = g.L.Leaf.entries c.args.leaf.now in
-    let entry : slice_get entries c.loop-at._at ≡ Some (entry_of c.in-Some.entry) = sym (rw c.loop-at.invariant.1 at c.walk_next.ensures.value) ∙ ap (option_map entry_of) c.in-Some.is in
+    let entry : slice_get entries c.loop-at._at ≡ Some (entry_of c.in-Some.entry) = sym (rw c.loop-at.invariant.here at c.walk_next.ensures.value) ∙ ap (option_map entry_of) c.in-Some.is in
     let same = within_same g.met.A.Key.Ord.total c.args.range.now entries c.loop-at._at (entry_of c.in-Some.entry).0 (entry_of c.in-Some.entry).1 entry c.requires (sym (rw c.key-key.ensures at c.begins_after.ensures.value) ∙ c.if-begins_after.true) in
-    (c.loop-at.invariant.0 ∙ ap (λ m. g.P.Project.image_of c.args.how.now (fold_of augment.base_of augment.unit_of augment.combined m)) (sym same), search rules, search rules)
+    record {
+      out = c.loop-at.invariant.out ∙ ap (λ m. g.P.Project.image_of c.args.how.now (fold_of augment.base_of augment.unit_of augment.combined m)) (sym same);
+      here = search rules;
+      fits = search rules;
+      cost = omega (arith, c.loop-at.invariant.cost);
+    }
 
 pub loop-at-preserved : goal.loop-at-preserved
 loop-at-preserved g c =
     let law = g.met.A.Augment in
     let augment = g.A.Augment in
     let entries = g.L.Leaf.entries c.args.leaf.now in
-    let entry : slice_get entries c.loop-at._at ≡ Some (entry_of c.in-Some.entry) = sym (rw c.loop-at.invariant.1 at c.walk_next.ensures.value) ∙ ap (option_map entry_of) c.in-Some.is in
+    let entry : slice_get entries c.loop-at._at ≡ Some (entry_of c.in-Some.entry) = sym (rw c.loop-at.invariant.here at c.walk_next.ensures.value) ∙ ap (option_map entry_of) c.in-Some.is in
     let more = image_more g.met.A.Key.Ord.total c.args.range.now entries c.loop-at._at (entry_of c.in-Some.entry).0 (entry_of c.in-Some.entry).1 entry law.monoid law.base_fits (g.P.Project.image_of c.args.how.now) (g.P.Project.combined c.args.how.now) (g.met.P.Project.projection c.args.how.now) c.requires (sym (rw c.key-key.ensures at c.ends_before.ensures.value) ∙ c.if-ends_before.false) (sym (rw c.key-key.ensures at c.begins_after.ensures.value) ∙ c.if-begins_after.false) in
-    (c.in_ok-out-2.ensures ∙ rw (c.loop-at.invariant.0, rw (c.key-key.ensures, c.val.ensures) at c.in_ok-image.ensures) (sym more), search rules, search rules)
+    record {
+      out = c.in_ok-out-2.ensures ∙ rw (c.loop-at.invariant.out, rw (c.key-key.ensures, c.val.ensures) at c.in_ok-image.ensures.value) (sym more);
+      here = search rules;
+      fits = search rules;
+      cost = omega (arith, c.loop-at.invariant.cost, c.in_ok-image.ensures.cost);
+    }
 
 pub unreachable-requires : goal.unreachable-requires
 unreachable-requires g c =
     let entries = g.L.Leaf.entries c.args.leaf.now in
-    let none : slice_get entries c.loop-at._at ≡ None = sym (rw c.loop-at.invariant.1 at c.walk_next.ensures.value) ∙ ap (option_map entry_of) c.in_default.is in
+    let none : slice_get entries c.loop-at._at ≡ None = sym (rw c.loop-at.invariant.here at c.walk_next.ensures.value) ∙ ap (option_map entry_of) c.in_default.is in
     omega (arith, none_past entries c.loop-at._at none, c.loop-at-test.true, c.len-at-end.ensures.value)
 
-pub returns : goal.returns
-returns g c =
+pub returns-clause-value : goal.returns-clause-value
+returns-clause-value g c =
     let augment = g.A.Augment in
     let entries = g.L.Leaf.entries c.args.leaf.now in
     let whole = take_all c.loop-at._at entries (omega (arith, c.loop-at-test.false, c.len-at-end.ensures.value)) in
-    c.loop-at.invariant.0 ∙ ap (λ m. g.P.Project.image_of c.args.how.now (fold_of augment.base_of augment.unit_of augment.combined (within g.A.Key.Ord.cmp c.args.range.now m))) whole
+    c.loop-at.invariant.out ∙ ap (λ m. g.P.Project.image_of c.args.how.now (fold_of augment.base_of augment.unit_of augment.combined (within g.A.Key.Ord.cmp c.args.range.now m))) whole
+
+pub returns-in_err-image-clause-cost : goal.returns-in_err-image-clause-cost
+returns-in_err-image-clause-cost g c = omega (arith, c.imaged.ensures.one_step, c.loop-at.invariant.cost, c.in_err-image.ensures.cost, c.loop-at-test.true, c.len-at-end.ensures.value)
+
+pub returns-in_err-out-2-clause-cost : goal.returns-in_err-out-2-clause-cost
+returns-in_err-out-2-clause-cost g c = omega (arith, c.imaged.ensures.one_step, c.loop-at.invariant.cost, c.in_ok-image.ensures.cost, c.loop-at-test.true, c.len-at-end.ensures.value)
+
+pub returns-clause-cost : goal.returns-clause-cost
+returns-clause-cost g c = omega (arith, c.imaged.ensures.one_step, c.loop-at.invariant.cost, c.loop-at.auto._at-end, c.len-at-end.ensures.value)

@@ -1,4 +1,4 @@
-use Rattle.std.proofs.Common.{◌≡◌, take}
+use Rattle.std.proofs.Common.{◌≡◌, ◌+◌, ◌≤◌, take}
 use Rattle.map_model.specs.Fold.{fold_of}
 use Rattle.tree_query.specs.Within.{within}
 use Rattle.tree_query.proofs.project.project_block.Given as goal
@@ -6,4 +6,9 @@ use Rattle.tree_query.proofs.project.project_block.Given as goal
 abbrev pub invariant-loop-at : goal.invariant-loop-at
 invariant-loop-at g l =
     let augment = g.A.Augment in
-    (l.out ≡ g.P.Project.image_of l.how (fold_of augment.base_of augment.unit_of augment.combined (within g.A.Key.Ord.cmp l.range (take l._at (g.L.Leaf.entries l.leaf))))) × (l.walk.index ≡ l._at) × (g.L.Leaf.fits_walk l.leaf l.walk)
+    record {
+      out : l.out ≡ g.P.Project.image_of l.how (fold_of augment.base_of augment.unit_of augment.combined (within g.A.Key.Ord.cmp l.range (take l._at (g.L.Leaf.entries l.leaf))));
+      here : l.walk.index ≡ l._at;
+      fits : g.L.Leaf.fits_walk l.leaf l.walk;
+      cost : l.images ≤ l.initial.images + l._at;
+    }
