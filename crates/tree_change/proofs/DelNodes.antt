@@ -3,7 +3,6 @@ use Rattle.std.proofs.Common.{◌≡◌, ℕ, ◌+◌, ◌^◌, ◌<◌, ◌≤�
 use Rattle.std.specs.Cmp.{IsTotalOrder}
 use Rattle.std.specs.declared.cmp.Ordering.{Ordering}
 use Rattle.std.specs.declared.cmp.Ordering.TheVariants.{Less, Greater}
-use Rattle.map_model.specs.Balance.{IsBlockSize}
 use Rattle.map_model.specs.Contents.{Contents}
 use Rattle.map_model.specs.Entries.{IsIncreasing, drop_key}
 use Rattle.map_model.specs.Order.{IsExact}
@@ -18,7 +17,7 @@ use Rattle.tree_change.proofs.Changed.{IsNodeOf, changed}
 use Rattle.tree_change.proofs.Owned.{IsTopNode, sides_fit}
 use Rattle.tree_change.proofs.Sides.{balance_turned, fill_turned, spared_balance, spared_fill}
 
-module _ {M K V X A L : Type 0} {order : K → K → Ordering} (total : IsTotalOrder order) (exact : IsExact order) {base : K → V → X} {unit : X} {combine : X → X → X} {block : ℕ} (lawful : IsBlockSize block) (map : Contents K V) (node : Node M K V X A L) (own : IsTopNode order base unit combine block map node) (q : K) where
+module _ {M K V X A L : Type 0} {order : K → K → Ordering} (total : IsTotalOrder order) (exact : IsExact order) {base : K → V → X} {unit : X} {combine : X → X → X} {block : ℕ} (map : Contents K V) (node : Node M K V X A L) (own : IsTopNode order base unit combine block map node) (q : K) where
   del_increasing : IsIncreasing order (drop_key order map.entries q)
   del_increasing = rw (← own.entries_are) (IsIncreasing-drop_key order _ q own.shape.increasing)
 

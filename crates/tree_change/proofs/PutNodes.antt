@@ -3,7 +3,6 @@ use Rattle.std.proofs.Common.{◌≡◌, ℕ, ◌+◌, ◌^◌, ◌<◌, ◌≤�
 use Rattle.std.specs.Cmp.{IsTotalOrder}
 use Rattle.std.specs.declared.cmp.Ordering.{Ordering}
 use Rattle.std.specs.declared.cmp.Ordering.TheVariants.{Less, Equal, Greater}
-use Rattle.map_model.specs.Balance.{IsBlockSize}
 use Rattle.map_model.specs.Contents.{Contents}
 use Rattle.map_model.specs.Entries.{IsIncreasing, set}
 use Rattle.map_model.specs.Fold.{IsMonoidOver, fold_of}
@@ -21,7 +20,7 @@ use Rattle.tree_change.proofs.Owned.{IsTopNode, sides_fit}
 use Rattle.tree_change.proofs.Sides.{balance_turned, fill_turned, grown_balance, grown_fill}
 use Rattle.tree_change.proofs.Taking.{fold_set, new_if_longer}
 
-module _ {M K V X A L : Type 0} {order : K → K → Ordering} (total : IsTotalOrder order) (exact : IsExact order) {base : K → V → X} {unit : X} {combine : X → X → X} {block : ℕ} (lawful : IsBlockSize block) (map : Contents K V) (node : Node M K V X A L) (own : IsTopNode order base unit combine block map node) (q : K) (v : V) where
+module _ {M K V X A L : Type 0} {order : K → K → Ordering} (total : IsTotalOrder order) (exact : IsExact order) {base : K → V → X} {unit : X} {combine : X → X → X} {block : ℕ} (map : Contents K V) (node : Node M K V X A L) (own : IsTopNode order base unit combine block map node) (q : K) (v : V) where
   put_increasing : IsIncreasing order (set order map.entries q v)
   put_increasing = rw (← own.entries_are) (IsIncreasing-set total _ q v own.shape.increasing)
 

@@ -51,7 +51,7 @@ pub(crate) enum Way {
 }
 
 /// How many entries a node of so many has beside one of its sides, without a look at the other side.
-fn far_size<M: Shape>(near: &Tree<M>, node_size: u64) -> u64
+fn size_beside<M: Shape>(near: &Tree<M>, node_size: u64) -> u64
     requires { length near.now.entries < node_size }
     ensures { length near.now.entries + result + 1 ≡ node_size }
 {
@@ -101,10 +101,11 @@ pub(crate) fn way_of_put<M: Shape, C: Ledger>(
     ensures one_step { steps.new ≡ steps.old + 1 }
 {
     match key.order(&node.key, steps) {
-        Ordering::Less if has_room(&node.left, far_size(&node.left, node.size)) => Way::Left,
+        Ordering::Less if has_room(&node.left, size_beside(&node.left, node.size)) => Way::Left,
         Ordering::Less => Way::Copy,
         Ordering::Equal => Way::Here,
-        Ordering::Greater if has_room(&node.right, far_size(&node.right, node.size)) => Way::Right,
+        Ordering::Greater if has_room(&node.right, size_beside(&node.right, node.size)) =>
+            Way::Right,
         Ordering::Greater => Way::Copy,
     }
 }

@@ -24,7 +24,7 @@ refresh-requires-clause-fits g t c =
     let map = c.args.part.tree.now in
     let node = c.in-Some-get_mut.node.now in
     let own = top_node g.M.Leaf.Leaf.entries g.M.Key.Ord.cmp a.base_of a.unit_of a.combined g.M.Shape.BLOCK map node c.in-Node.owner c.tree.inside.top c.in-Some-get_mut.ensures.value c.in-Node.is c.tree.invariant c.tree.view_is in
-    del_left_fits g.met.M.Key.Ord.total g.met.M.Key.Key.exact g.M.Shape.lawful map node own c.args.key.now c.del_in.new.part.0 c.in_ok-del_in-in-Left.ensures.entries
+    del_left_fits g.met.M.Key.Ord.total g.met.M.Key.Key.exact map node own c.args.key.now c.del_in.new.part.0 c.in_ok-del_in-in-Left.ensures.entries
 
 pub invariant_of-tree-in-Left : goal.invariant_of-tree-in-Left
 invariant_of-tree-in-Left g t c =
@@ -33,7 +33,7 @@ invariant_of-tree-in-Left g t c =
     let node = c.in-Some-get_mut.node.now in
     let own = top_node g.M.Leaf.Leaf.entries g.M.Key.Ord.cmp a.base_of a.unit_of a.combined g.M.Shape.BLOCK map node c.in-Node.owner c.tree.inside.top c.in-Some-get_mut.ensures.value c.in-Node.is c.tree.invariant c.tree.view_is in
     let way = c.in-Left.ensures.way in
-    let new = del_left g.met.M.Key.Ord.total g.met.M.Key.Key.exact g.M.Shape.lawful map node own c.args.key.now c.del_in.new.part.0 c.refresh.new.node way c.in_ok-del_in-in-Left.ensures.entries c.refresh.ensures.node in
+    let new = del_left g.met.M.Key.Ord.total g.met.M.Key.Key.exact map node own c.args.key.now c.del_in.new.part.0 c.refresh.new.node way c.in_ok-del_in-in-Left.ensures.entries c.refresh.ensures.node in
     new.shape
 
 pub returns-in-Left-clause-entries : goal.returns-in-Left-clause-entries
@@ -43,7 +43,7 @@ returns-in-Left-clause-entries g t c =
     let node = c.in-Some-get_mut.node.now in
     let own = top_node g.M.Leaf.Leaf.entries g.M.Key.Ord.cmp a.base_of a.unit_of a.combined g.M.Shape.BLOCK map node c.in-Node.owner c.tree.inside.top c.in-Some-get_mut.ensures.value c.in-Node.is c.tree.invariant c.tree.view_is in
     let way = c.in-Left.ensures.way in
-    let new = del_left g.met.M.Key.Ord.total g.met.M.Key.Key.exact g.M.Shape.lawful map node own c.args.key.now c.del_in.new.part.0 c.refresh.new.node way c.in_ok-del_in-in-Left.ensures.entries c.refresh.ensures.node in
+    let new = del_left g.met.M.Key.Ord.total g.met.M.Key.Key.exact map node own c.args.key.now c.del_in.new.part.0 c.refresh.new.node way c.in_ok-del_in-in-Left.ensures.entries c.refresh.ensures.node in
     new.entries_are
 
 pub returns-in-Left-clause-cost : goal.returns-in-Left-clause-cost
@@ -70,7 +70,7 @@ refresh-requires-in-Right-clause-fits g t c =
     let map = c.args.part.tree.now in
     let node = c.in-Some-get_mut.node.now in
     let own = top_node g.M.Leaf.Leaf.entries g.M.Key.Ord.cmp a.base_of a.unit_of a.combined g.M.Shape.BLOCK map node c.in-Node.owner c.tree.inside.top c.in-Some-get_mut.ensures.value c.in-Node.is c.tree.invariant c.tree.view_is in
-    del_right_fits g.met.M.Key.Ord.total g.met.M.Key.Key.exact g.M.Shape.lawful map node own c.args.key.now c.del_in-in-Right.new.part.0 c.in_ok-del_in-in-Right.ensures.entries
+    del_right_fits g.met.M.Key.Ord.total g.met.M.Key.Key.exact map node own c.args.key.now c.del_in-in-Right.new.part.0 c.in_ok-del_in-in-Right.ensures.entries
 
 pub invariant_of-tree-in-Right : goal.invariant_of-tree-in-Right
 invariant_of-tree-in-Right g t c =
@@ -79,7 +79,7 @@ invariant_of-tree-in-Right g t c =
     let node = c.in-Some-get_mut.node.now in
     let own = top_node g.M.Leaf.Leaf.entries g.M.Key.Ord.cmp a.base_of a.unit_of a.combined g.M.Shape.BLOCK map node c.in-Node.owner c.tree.inside.top c.in-Some-get_mut.ensures.value c.in-Node.is c.tree.invariant c.tree.view_is in
     let way = c.in-Right.ensures.way in
-    let new = del_right g.met.M.Key.Ord.total g.met.M.Key.Key.exact g.M.Shape.lawful map node own c.args.key.now c.del_in-in-Right.new.part.0 c.refresh-in-Right.new.node way c.in_ok-del_in-in-Right.ensures.entries c.refresh-in-Right.ensures.node in
+    let new = del_right g.met.M.Key.Ord.total g.met.M.Key.Key.exact map node own c.args.key.now c.del_in-in-Right.new.part.0 c.refresh-in-Right.new.node way c.in_ok-del_in-in-Right.ensures.entries c.refresh-in-Right.ensures.node in
     new.shape
 
 pub returns-in-Right-clause-entries : goal.returns-in-Right-clause-entries
@@ -89,7 +89,7 @@ returns-in-Right-clause-entries g t c =
     let node = c.in-Some-get_mut.node.now in
     let own = top_node g.M.Leaf.Leaf.entries g.M.Key.Ord.cmp a.base_of a.unit_of a.combined g.M.Shape.BLOCK map node c.in-Node.owner c.tree.inside.top c.in-Some-get_mut.ensures.value c.in-Node.is c.tree.invariant c.tree.view_is in
     let way = c.in-Right.ensures.way in
-    let new = del_right g.met.M.Key.Ord.total g.met.M.Key.Key.exact g.M.Shape.lawful map node own c.args.key.now c.del_in-in-Right.new.part.0 c.refresh-in-Right.new.node way c.in_ok-del_in-in-Right.ensures.entries c.refresh-in-Right.ensures.node in
+    let new = del_right g.met.M.Key.Ord.total g.met.M.Key.Key.exact map node own c.args.key.now c.del_in-in-Right.new.part.0 c.refresh-in-Right.new.node way c.in_ok-del_in-in-Right.ensures.entries c.refresh-in-Right.ensures.node in
     new.entries_are
 
 pub returns-in-Right-clause-cost : goal.returns-in-Right-clause-cost

@@ -27,7 +27,7 @@ refresh_after_put-requires-clause-fits g t c =
     let node = c.in-Some-get_mut.node.now in
     let own = top_node g.M.Leaf.Leaf.entries g.M.Key.Ord.cmp a.base_of a.unit_of a.combined g.M.Shape.BLOCK map node c.in-Node.owner c.tree.inside.top c.in-Some-get_mut.ensures.value c.in-Node.is c.tree.invariant c.tree.view_is in
     let way = c.in-Left.ensures.way in
-    put_left_fits g.met.M.Key.Ord.total g.met.M.Key.Key.exact g.M.Shape.lawful map node own c.args.key c.args.val c.put_in.new.part.0 c.in_ok-put_in-in-Left.ensures.entries way.1
+    put_left_fits g.met.M.Key.Ord.total g.met.M.Key.Key.exact map node own c.args.key c.args.val c.put_in.new.part.0 c.in_ok-put_in-in-Left.ensures.entries way.1
 
 pub invariant_of-tree-in-Left : goal.invariant_of-tree-in-Left
 invariant_of-tree-in-Left g t c =
@@ -36,7 +36,7 @@ invariant_of-tree-in-Left g t c =
     let node = c.in-Some-get_mut.node.now in
     let own = top_node g.M.Leaf.Leaf.entries g.M.Key.Ord.cmp a.base_of a.unit_of a.combined g.M.Shape.BLOCK map node c.in-Node.owner c.tree.inside.top c.in-Some-get_mut.ensures.value c.in-Node.is c.tree.invariant c.tree.view_is in
     let way = c.in-Left.ensures.way in
-    let new = put_left g.met.M.Key.Ord.total g.met.M.Key.Key.exact g.M.Shape.lawful map node own c.args.key c.args.val c.put_in.new.part.0 c.refresh_after_put.new.node way c.in_ok-put_in-in-Left.ensures.entries c.refresh_after_put.ensures.node in
+    let new = put_left g.met.M.Key.Ord.total g.met.M.Key.Key.exact map node own c.args.key c.args.val c.put_in.new.part.0 c.refresh_after_put.new.node way c.in_ok-put_in-in-Left.ensures.entries c.refresh_after_put.ensures.node in
     new.shape
 
 pub returns-in-Left-clause-entries : goal.returns-in-Left-clause-entries
@@ -46,7 +46,7 @@ returns-in-Left-clause-entries g t c =
     let node = c.in-Some-get_mut.node.now in
     let own = top_node g.M.Leaf.Leaf.entries g.M.Key.Ord.cmp a.base_of a.unit_of a.combined g.M.Shape.BLOCK map node c.in-Node.owner c.tree.inside.top c.in-Some-get_mut.ensures.value c.in-Node.is c.tree.invariant c.tree.view_is in
     let way = c.in-Left.ensures.way in
-    let new = put_left g.met.M.Key.Ord.total g.met.M.Key.Key.exact g.M.Shape.lawful map node own c.args.key c.args.val c.put_in.new.part.0 c.refresh_after_put.new.node way c.in_ok-put_in-in-Left.ensures.entries c.refresh_after_put.ensures.node in
+    let new = put_left g.met.M.Key.Ord.total g.met.M.Key.Key.exact map node own c.args.key c.args.val c.put_in.new.part.0 c.refresh_after_put.new.node way c.in_ok-put_in-in-Left.ensures.entries c.refresh_after_put.ensures.node in
     new.entries_are
 
 pub returns-in-Left-clause-cost : goal.returns-in-Left-clause-cost
@@ -74,7 +74,7 @@ refresh_after_put-requires-in-Right-clause-fits g t c =
     let node = c.in-Some-get_mut.node.now in
     let own = top_node g.M.Leaf.Leaf.entries g.M.Key.Ord.cmp a.base_of a.unit_of a.combined g.M.Shape.BLOCK map node c.in-Node.owner c.tree.inside.top c.in-Some-get_mut.ensures.value c.in-Node.is c.tree.invariant c.tree.view_is in
     let way = c.in-Right.ensures.way in
-    put_right_fits g.met.M.Key.Ord.total g.met.M.Key.Key.exact g.M.Shape.lawful map node own c.args.key c.args.val c.put_in-in-Right.new.part.0 c.in_ok-put_in-in-Right.ensures.entries way.1
+    put_right_fits g.met.M.Key.Ord.total g.met.M.Key.Key.exact map node own c.args.key c.args.val c.put_in-in-Right.new.part.0 c.in_ok-put_in-in-Right.ensures.entries way.1
 
 pub invariant_of-tree-in-Right : goal.invariant_of-tree-in-Right
 invariant_of-tree-in-Right g t c =
@@ -83,7 +83,7 @@ invariant_of-tree-in-Right g t c =
     let node = c.in-Some-get_mut.node.now in
     let own = top_node g.M.Leaf.Leaf.entries g.M.Key.Ord.cmp a.base_of a.unit_of a.combined g.M.Shape.BLOCK map node c.in-Node.owner c.tree.inside.top c.in-Some-get_mut.ensures.value c.in-Node.is c.tree.invariant c.tree.view_is in
     let way = c.in-Right.ensures.way in
-    let new = put_right g.met.M.Key.Ord.total g.met.M.Key.Key.exact g.M.Shape.lawful map node own c.args.key c.args.val c.put_in-in-Right.new.part.0 c.refresh_after_put-in-Right.new.node way c.in_ok-put_in-in-Right.ensures.entries c.refresh_after_put-in-Right.ensures.node in
+    let new = put_right g.met.M.Key.Ord.total g.met.M.Key.Key.exact map node own c.args.key c.args.val c.put_in-in-Right.new.part.0 c.refresh_after_put-in-Right.new.node way c.in_ok-put_in-in-Right.ensures.entries c.refresh_after_put-in-Right.ensures.node in
     new.shape
 
 pub returns-in-Right-clause-entries : goal.returns-in-Right-clause-entries
@@ -93,7 +93,7 @@ returns-in-Right-clause-entries g t c =
     let node = c.in-Some-get_mut.node.now in
     let own = top_node g.M.Leaf.Leaf.entries g.M.Key.Ord.cmp a.base_of a.unit_of a.combined g.M.Shape.BLOCK map node c.in-Node.owner c.tree.inside.top c.in-Some-get_mut.ensures.value c.in-Node.is c.tree.invariant c.tree.view_is in
     let way = c.in-Right.ensures.way in
-    let new = put_right g.met.M.Key.Ord.total g.met.M.Key.Key.exact g.M.Shape.lawful map node own c.args.key c.args.val c.put_in-in-Right.new.part.0 c.refresh_after_put-in-Right.new.node way c.in_ok-put_in-in-Right.ensures.entries c.refresh_after_put-in-Right.ensures.node in
+    let new = put_right g.met.M.Key.Ord.total g.met.M.Key.Key.exact map node own c.args.key c.args.val c.put_in-in-Right.new.part.0 c.refresh_after_put-in-Right.new.node way c.in_ok-put_in-in-Right.ensures.entries c.refresh_after_put-in-Right.ensures.node in
     new.entries_are
 
 pub returns-in-Right-clause-cost : goal.returns-in-Right-clause-cost
@@ -119,7 +119,7 @@ invariant_of-tree-in-Here g t c =
     let map = c.args.part.tree.now in
     let node = c.in-Some-get_mut.node.now in
     let own = top_node g.M.Leaf.Leaf.entries g.M.Key.Ord.cmp a.base_of a.unit_of a.combined g.M.Shape.BLOCK map node c.in-Node.owner c.tree.inside.top c.in-Some-get_mut.ensures.value c.in-Node.is c.tree.invariant c.tree.view_is in
-    let new = put_here g.met.M.Key.Ord.total g.met.M.Key.Key.exact g.M.Shape.lawful map node own c.args.key c.args.val c.refresh.new.node c.in-Here.ensures.way c.refresh.ensures.node in
+    let new = put_here g.met.M.Key.Ord.total g.met.M.Key.Key.exact map node own c.args.key c.args.val c.refresh.new.node c.in-Here.ensures.way c.refresh.ensures.node in
     new.shape
 
 pub returns-in-Here-clause-entries : goal.returns-in-Here-clause-entries
@@ -128,7 +128,7 @@ returns-in-Here-clause-entries g t c =
     let map = c.args.part.tree.now in
     let node = c.in-Some-get_mut.node.now in
     let own = top_node g.M.Leaf.Leaf.entries g.M.Key.Ord.cmp a.base_of a.unit_of a.combined g.M.Shape.BLOCK map node c.in-Node.owner c.tree.inside.top c.in-Some-get_mut.ensures.value c.in-Node.is c.tree.invariant c.tree.view_is in
-    let new = put_here g.met.M.Key.Ord.total g.met.M.Key.Key.exact g.M.Shape.lawful map node own c.args.key c.args.val c.refresh.new.node c.in-Here.ensures.way c.refresh.ensures.node in
+    let new = put_here g.met.M.Key.Ord.total g.met.M.Key.Key.exact map node own c.args.key c.args.val c.refresh.new.node c.in-Here.ensures.way c.refresh.ensures.node in
     new.entries_are
 
 pub returns-in_err-tree-inside-clause-cost : goal.returns-in_err-tree-inside-clause-cost
@@ -305,7 +305,7 @@ refresh_after_put-requires-clause-fold g t c = λ grew alike.
     let own = top_node g.M.Leaf.Leaf.entries g.M.Key.Ord.cmp a.base_of a.unit_of a.combined g.M.Shape.BLOCK map node c.in-Node.owner c.tree.inside.top c.in-Some-get_mut.ensures.value c.in-Node.is c.tree.invariant c.tree.view_is in
     let law = g.met.M.Augment.Augment in
     let more : length node.left.entries < length c.put_in.new.part.0.entries = omega (arith, grew, c.extent_of-before.ensures.size, c.extent_of-after.ensures.size) in
-    rw c.requires.base (sym (put_left_fold g.met.M.Key.Ord.total g.met.M.Key.Key.exact g.M.Shape.lawful map node own c.args.key c.args.val law.monoid law.base_fits alike c.put_in.new.part.0 c.in_ok-put_in-in-Left.ensures.entries c.in-Left.ensures.way.0 more))
+    rw c.requires.base (sym (put_left_fold g.met.M.Key.Ord.total g.met.M.Key.Key.exact map node own c.args.key c.args.val law.monoid law.base_fits alike c.put_in.new.part.0 c.in_ok-put_in-in-Left.ensures.entries c.in-Left.ensures.way.0 more))
 
 pub refresh_after_put-requires-clause-size : goal.refresh_after_put-requires-clause-size
 refresh_after_put-requires-clause-size g t c = λ grew.
@@ -314,7 +314,7 @@ refresh_after_put-requires-clause-size g t c = λ grew.
     let node = c.in-Some-get_mut.node.now in
     let own = top_node g.M.Leaf.Leaf.entries g.M.Key.Ord.cmp a.base_of a.unit_of a.combined g.M.Shape.BLOCK map node c.in-Node.owner c.tree.inside.top c.in-Some-get_mut.ensures.value c.in-Node.is c.tree.invariant c.tree.view_is in
     let more : length node.left.entries < length c.put_in.new.part.0.entries = omega (arith, grew, c.extent_of-before.ensures.size, c.extent_of-after.ensures.size) in
-    put_left_size g.met.M.Key.Ord.total g.met.M.Key.Key.exact g.M.Shape.lawful map node own c.args.key c.args.val c.put_in.new.part.0 c.in_ok-put_in-in-Left.ensures.entries more
+    put_left_size g.met.M.Key.Ord.total g.met.M.Key.Key.exact map node own c.args.key c.args.val c.put_in.new.part.0 c.in_ok-put_in-in-Left.ensures.entries more
 
 pub refresh_after_put-requires-clause-height : goal.refresh_after_put-requires-clause-height
 refresh_after_put-requires-clause-height g t c = λ same.
@@ -332,7 +332,7 @@ refresh_after_put-requires-in-Right-clause-fold g t c = λ grew alike.
     let own = top_node g.M.Leaf.Leaf.entries g.M.Key.Ord.cmp a.base_of a.unit_of a.combined g.M.Shape.BLOCK map node c.in-Node.owner c.tree.inside.top c.in-Some-get_mut.ensures.value c.in-Node.is c.tree.invariant c.tree.view_is in
     let law = g.met.M.Augment.Augment in
     let more : length node.right.entries < length c.put_in-in-Right.new.part.0.entries = omega (arith, grew, c.extent_of-before-in-Right.ensures.size, c.extent_of-after-in-Right.ensures.size) in
-    rw c.requires.base (sym (put_right_fold g.met.M.Key.Ord.total g.met.M.Key.Key.exact g.M.Shape.lawful map node own c.args.key c.args.val law.monoid law.base_fits alike c.put_in-in-Right.new.part.0 c.in_ok-put_in-in-Right.ensures.entries c.in-Right.ensures.way.0 more))
+    rw c.requires.base (sym (put_right_fold g.met.M.Key.Ord.total g.met.M.Key.Key.exact map node own c.args.key c.args.val law.monoid law.base_fits alike c.put_in-in-Right.new.part.0 c.in_ok-put_in-in-Right.ensures.entries c.in-Right.ensures.way.0 more))
 
 pub refresh_after_put-requires-in-Right-clause-size : goal.refresh_after_put-requires-in-Right-clause-size
 refresh_after_put-requires-in-Right-clause-size g t c = λ grew.
@@ -341,7 +341,7 @@ refresh_after_put-requires-in-Right-clause-size g t c = λ grew.
     let node = c.in-Some-get_mut.node.now in
     let own = top_node g.M.Leaf.Leaf.entries g.M.Key.Ord.cmp a.base_of a.unit_of a.combined g.M.Shape.BLOCK map node c.in-Node.owner c.tree.inside.top c.in-Some-get_mut.ensures.value c.in-Node.is c.tree.invariant c.tree.view_is in
     let more : length node.right.entries < length c.put_in-in-Right.new.part.0.entries = omega (arith, grew, c.extent_of-before-in-Right.ensures.size, c.extent_of-after-in-Right.ensures.size) in
-    put_right_size g.met.M.Key.Ord.total g.met.M.Key.Key.exact g.M.Shape.lawful map node own c.args.key c.args.val c.put_in-in-Right.new.part.0 c.in_ok-put_in-in-Right.ensures.entries more
+    put_right_size g.met.M.Key.Ord.total g.met.M.Key.Key.exact map node own c.args.key c.args.val c.put_in-in-Right.new.part.0 c.in_ok-put_in-in-Right.ensures.entries more
 
 pub refresh_after_put-requires-in-Right-clause-height : goal.refresh_after_put-requires-in-Right-clause-height
 refresh_after_put-requires-in-Right-clause-height g t c = λ same.
