@@ -1,15 +1,17 @@
 //! Which intervals have a number, or a number of a range, and which are there.
-ghost use Rattle.std.specs.Prelude.{◌≡◌, ◌↔◌, [], Contains, IfOk, IsTrue, slice_get, take};
+ghost use Rattle.std.specs.Prelude.{◌≡◌, ◌↔◌, ◌+◌, ◌*◌, ◌≤◌, ℕ, [], Contains, IfOk, IsTrue, length, slice_get, take};
 ghost use Rattle.std.specs.Map.{keys_of};
 ghost use Rattle.aug_monoid.specs.Exact.{pair64_cmp};
 ghost use Rattle.map_model.specs.Parts.{slice};
+ghost use Rattle.interval_map.specs.Heights.{IsHighest};
 ghost use Rattle.interval_map.specs.Intervals.{interval, intervals_from, overlap, stab};
 
 use crate::ends::EndsFrom;
 use crate::intervals::{Intervals, interval};
-use aug_monoid::{AugTest, MaxRight, NoMemory, Pair64};
+use aug_monoid::{AugTest, MaxRight, NoMemory, Pair64, Steps};
 use ord_map::OrdMap;
 use std::alloc::Global;
+use std::sync::ledger::Ledger;
 
 // The first `count` keys of a map in order.
 fn first_keys(alloc: Global, map: &OrdMap<MaxRight>, count: usize) -> Result<Vec<Pair64>, NoMemory>
@@ -103,6 +105,19 @@ impl Intervals {
         self.overlap(alloc, p, p)
     }
 
+    /// `stab` with its tests counted, as `overlap_counted` counts them.
+    pub fn stab_counted<C: Ledger>(
+        &self,
+        alloc: Global,
+        p: u64,
+        tests: &mut Steps<C>,
+    ) -> Result<Vec<Pair64>, NoMemory>
+        ensures hits { IfOk result (λ hits. hits.items ≡ stab self.now p) }
+        ensures cost { (height : ℕ) → IsHighest (length self.now) height → tests.new ≤ tests.old + (1 + length (stab self.now p) * (3 * height + 64)) }
+    {
+        self.overlap_counted(alloc, p, p, tests)
+    }
+
     /// The intervals that begin at most at `hi` and end at least at `lo`, in order, in the time of `stab`. Where `lo` is at most
     /// `hi`, these are the intervals that have a number from `lo` to `hi`.
     pub fn overlap(&self, alloc: Global, lo: u64, hi: u64) -> Result<Vec<Pair64>, NoMemory>
@@ -111,5 +126,24 @@ impl Intervals {
         let begun = begun(alloc, &self.map, hi)?;
         let hits = begun.filter_fold(alloc, &EndsFrom { least: lo })?;
         hits.keys(alloc)
+    }
+    /// `overlap` with its tests counted: a look at a right end, or at the greatest one of a part of the set, is a step. Where k
+    /// intervals are answered it takes at most `1 + k * (3 * height + 64)`, for each `height` that no set of as many intervals
+    /// exceeds.
+    pub fn overlap_counted<C: Ledger>(
+        &self,
+        alloc: Global,
+        lo: u64,
+        hi: u64,
+        tests: &mut Steps<C>,
+    ) -> Result<Vec<Pair64>, NoMemory>
+        ensures hits { IfOk result (λ hits. hits.items ≡ overlap self.now lo hi) }
+        ensures cost { (height : ℕ) → IsHighest (length self.now) height → tests.new ≤ tests.old + (1 + length (overlap self.now lo hi) * (3 * height + 64)) }
+    {
+        let begun = begun(alloc, &self.map, hi)?;
+        let part = begun.into_map();
+        let _height = part.height(); // for the proof alone: how high so many entries may be
+        let hits = part.aug_filter_counted(alloc, &EndsFrom { least: lo }, tests)?;
+        OrdMap::from_map(hits).keys(alloc)
     }
 }

@@ -5,7 +5,9 @@
 //! new set and leave the old one as it was; `add_mut` and `del_mut` change a set in place where no other has part in it. A call
 //! refuses only for want of memory, and then the set is as it was.
 //!
-//! Tests: `library_tests`. Wrong bodies: none here; `interval_tool` states these clauses again.
+//! A call whose name ends in `_counted` is the one without that ending with a counter, and says how many steps it takes at most.
+//!
+//! Tests: `library_tests`. Wrong bodies: here, of that bound; `interval_tool` states the other clauses again.
 #![tactic(auto)]
 
 mod asking;

@@ -1,9 +1,13 @@
 //! Each call on a set that has nested intervals, equal ones, and ones that share an end. Where memory is refused, a
 //! test ends here.
-use aug_monoid::{NoMemory, Pair64, Share};
+ghost use Rattle.aug_monoid.specs.Fresh.{IsFresh};
+
+use aug_monoid::{NoMemory, Pair64, Share, Steps};
 use interval_map::Intervals;
 use std::alloc::Global;
+use std::marker::Brand;
 use std::process::Abort;
+use std::sync::ledger::{Blank, Ledger};
 
 /// Intervals in the order in which they are added, one of them twice.
 const ENDS: [(u64, u64); 7] = [
@@ -121,4 +125,21 @@ const AT_3: &[(u64, u64)] = &[(2, 3), (3, 3), (3, 9)];
 fn a_share_has_the_same_intervals(rt: HostRuntime) {
     let share = all(&rt, rt.alloc()).share(rt.alloc()).expect(&rt, "memory");
     assert_hits(&rt, share.stab(rt.alloc(), 3), AT_3);
+}
+
+fn assert_counted<R: Abort, C: Ledger>(rt: &R, alloc: Global, intervals: &Intervals, blank: Blank)
+    requires { IsFresh C.name C.parts blank }
+{
+    let mut tests = Steps::<C>::start(blank);
+    assert_hits(rt, intervals.stab_counted(alloc, 3, &mut tests), AT_3);
+    assert_hits(rt, intervals.overlap_counted(alloc, 3, 3, &mut tests), AT_3);
+}
+
+fn assert_counts<R: Abort>(rt: &R, alloc: Global) {
+    assert_counted::<R, Brand>(rt, alloc, &all(rt, alloc), Blank::new(1));
+}
+
+#[test]
+fn calls_that_count_answer_the_same(rt: HostRuntime) {
+    assert_counts(&rt, rt.alloc());
 }
