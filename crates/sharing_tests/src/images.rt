@@ -1,14 +1,17 @@
 //! How many images are taken for a range.
+ghost use Rattle.aug_monoid.specs.Fresh.{IsFresh};
 ghost use Rattle.map_model.specs.Balance.{IsBlockSize};
 ghost use Rattle.std.specs.Prelude.{max, refl};
 ghost use Rattle.std.proofs.Common.{arith};
 
 use aug_map::Map;
-use aug_monoid::{Leaf, NoMemory, Project, SumMax, Totals};
+use aug_monoid::{Leaf, NoMemory, Project, Steps, SumMax, Totals};
 use leaf_blocks::PlainLeaf;
 use std::alloc::Global;
+use std::marker::Brand;
 use std::process::Abort;
 use std::sync::atomic::{AtomicU64, Ordering};
+use std::sync::ledger::{Blank, Ledger};
 
 /// Images that are all 0. It counts how many are taken.
 #[derive(Drop)]
@@ -50,12 +53,13 @@ fn entries<R: Abort>(rt: &R, alloc: Global) -> Vec<(u64, u64)> {
     pairs
 }
 
-/// How many images are taken for the keys from `lo` to `hi`, and how many at most where it is done on two paths that end in blocks.
-fn taken<R: Abort, L: Leaf<u64, u64>, const B: usize>(
+/// How many images are taken for the keys from `lo` to `hi`, and how many the clause allows.
+fn taken<R: Abort, L: Leaf<u64, u64>, C: Ledger, const B: usize>(
     rt: &R,
     alloc: Global,
     lo: u64,
     hi: u64,
+    images: &mut Steps<C>,
 ) -> (u64, u64)
     requires { IsBlockSize B }
 {
@@ -64,23 +68,43 @@ fn taken<R: Abort, L: Leaf<u64, u64>, const B: usize>(
     let how = Zeros {
         taken: AtomicU64::new(0),
     };
-    map.aug_project(alloc, &lo, &hi, &how).expect(rt, "memory");
-    let most = 4 * (map.height() as u64 + B as u64 + 2);
+    map.aug_project_counted(alloc, &lo, &hi, &how, images)
+        .expect(rt, "memory");
+    let most = 4 * map.height() as u64 + 4 * B as u64 + 1;
     (how.taken.load(Ordering::SeqCst), most)
 }
 
 /// Asserts it of a range.
-fn assert_few<R: Abort, L: Leaf<u64, u64>>(rt: &R, alloc: Global, lo: u64, hi: u64) {
-    let (few, most) = taken::<R, L, 1>(rt, alloc, lo, hi);
+fn assert_few<R: Abort, L: Leaf<u64, u64>, C: Ledger>(
+    rt: &R,
+    alloc: Global,
+    lo: u64,
+    hi: u64,
+    images: &mut Steps<C>,
+) {
+    let (few, most) = taken::<R, L, C, 1>(rt, alloc, lo, hi, images);
     assert!(rt; few <= most, "{few} of {most}");
-    let (few, most) = taken::<R, L, 32>(rt, alloc, lo, hi);
+    let (few, most) = taken::<R, L, C, 32>(rt, alloc, lo, hi, images);
     assert!(rt; few <= most, "{few} of {most}");
+}
+
+/// Asserts it of all keys, of most, and of two halves.
+fn assert_ranges<R: Abort, L: Leaf<u64, u64>, C: Ledger>(rt: &R, alloc: Global, blank: Blank)
+    requires { IsFresh C.name C.parts blank }
+{
+    let mut images = Steps::<C>::start(blank);
+    assert_few::<R, L, C>(rt, alloc, 0, 9999, &mut images);
+    assert_few::<R, L, C>(rt, alloc, 1234, 8765, &mut images);
+    assert_few::<R, L, C>(rt, alloc, 0, 4999, &mut images);
+    assert_few::<R, L, C>(rt, alloc, 4998, 9999, &mut images);
+}
+
+/// Asserts it in plain blocks.
+fn assert_ranges_in_plain<R: Abort>(rt: &R, alloc: Global) {
+    assert_ranges::<R, PlainLeaf<u64, u64>, Brand>(rt, alloc, Blank::new(1));
 }
 
 #[test]
 fn images_of_a_range_are_taken_on_two_paths(rt: HostRuntime) {
-    assert_few::<HostRuntime, PlainLeaf<u64, u64>>(&rt, rt.alloc(), 0, 9999);
-    assert_few::<HostRuntime, PlainLeaf<u64, u64>>(&rt, rt.alloc(), 1234, 8765);
-    assert_few::<HostRuntime, PlainLeaf<u64, u64>>(&rt, rt.alloc(), 0, 4999);
-    assert_few::<HostRuntime, PlainLeaf<u64, u64>>(&rt, rt.alloc(), 4998, 9999);
+    assert_ranges_in_plain(&rt, rt.alloc());
 }

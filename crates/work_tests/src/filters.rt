@@ -1,15 +1,17 @@
 //! How many augmented values a filter looks at, and a search for the first that passes.
+ghost use Rattle.aug_monoid.specs.Fresh.{IsFresh};
 ghost use Rattle.map_model.specs.Balance.{IsBlockSize};
 ghost use Rattle.std.specs.Prelude.{◌≡◌, nat_le};
 ghost use Rattle.work_tests.specs.Greatest.{either_passes};
 
 use aug_map::Map;
-use aug_monoid::{AugTest, Leaf, SumMax, Totals};
+use aug_monoid::{AugTest, Leaf, Steps, SumMax, Totals};
 use leaf_blocks::PlainLeaf;
 use std::alloc::Global;
-use std::marker::Model;
+use std::marker::{Brand, Model};
 use std::process::Abort;
 use std::sync::atomic::{AtomicU64, Ordering};
+use std::sync::ledger::{Blank, Ledger};
 
 /// The values that are at least a number. It counts the augmented values that it looks at.
 #[derive(Drop)]
@@ -48,10 +50,11 @@ fn entries<R: Abort>(rt: &R, alloc: Global) -> Vec<(u64, u64)> {
 }
 
 /// How many entries with a value of at least a number there are, and whether few were looked at to find them.
-fn kept<R: Abort, L: Leaf<u64, u64>, const B: usize>(
+fn kept<R: Abort, L: Leaf<u64, u64>, C: Ledger, const B: usize>(
     rt: &R,
     alloc: Global,
     least: u64,
+    tests: &mut Steps<C>,
 ) -> (u64, bool)
     requires { IsBlockSize B }
 {
@@ -61,7 +64,10 @@ fn kept<R: Abort, L: Leaf<u64, u64>, const B: usize>(
         least,
         looked: AtomicU64::new(0),
     };
-    let kept = map.aug_filter(alloc, &test).expect(rt, "memory").size();
+    let kept = map
+        .aug_filter_counted(alloc, &test, tests)
+        .expect(rt, "memory")
+        .size();
     let looked = test.looked.load(Ordering::SeqCst);
     let beside = 3 * map.height() as u64 + 2 * B as u64;
     (
@@ -81,10 +87,11 @@ fn entries_with_one<R: Abort>(rt: &R, alloc: Global, special: u64) -> Vec<(u64, 
 }
 
 /// The first key with a value of at least 9, and whether few were looked at to find it.
-fn found<R: Abort, L: Leaf<u64, u64>, const B: usize>(
+fn found<R: Abort, L: Leaf<u64, u64>, C: Ledger, const B: usize>(
     rt: &R,
     alloc: Global,
     special: u64,
+    tests: &mut Steps<C>,
 ) -> (Option<u64>, bool)
     requires { IsBlockSize B }
 {
@@ -94,33 +101,60 @@ fn found<R: Abort, L: Leaf<u64, u64>, const B: usize>(
         least: 9,
         looked: AtomicU64::new(0),
     };
-    let first = map.first_where(alloc, &test).expect(rt, "memory");
+    let first = map
+        .first_where_counted(alloc, &test, tests)
+        .expect(rt, "memory");
     let looked = test.looked.load(Ordering::SeqCst);
     let path = 3 * map.height() as u64 + 2 * B as u64 + 1;
     (first.map(|entry| entry.0), looked <= path)
 }
 
 /// Asserts what `found` answers in blocks of a kind.
-fn assert_found<R: Abort, L: Leaf<u64, u64>>(rt: &R, alloc: Global) {
-    assert_eq!(rt; found::<R, L, 1>(rt, alloc, 3001), (Some(3001), true));
-    assert_eq!(rt; found::<R, L, 32>(rt, alloc, 3001), (Some(3001), true));
-    assert_eq!(rt; found::<R, L, 32>(rt, alloc, 5000), (None, true));
+fn assert_found<R: Abort, L: Leaf<u64, u64>, C: Ledger>(rt: &R, alloc: Global, blank: Blank)
+    requires { IsFresh C.name C.parts blank }
+{
+    let mut tests = Steps::<C>::start(blank);
+    assert_eq!(rt;
+        found::<R, L, C, 1>(rt, alloc, 3001, &mut tests),
+        (Some(3001), true)
+    );
+    assert_eq!(rt;
+        found::<R, L, C, 32>(rt, alloc, 3001, &mut tests),
+        (Some(3001), true)
+    );
+    assert_eq!(rt;
+        found::<R, L, C, 32>(rt, alloc, 5000, &mut tests),
+        (None, true)
+    );
+}
+
+/// Asserts it in plain blocks.
+fn assert_found_in_plain<R: Abort>(rt: &R, alloc: Global) {
+    assert_found::<R, PlainLeaf<u64, u64>, Brand>(rt, alloc, Blank::new(1));
 }
 
 #[test]
 fn the_first_that_passes_is_found_on_one_path(rt: HostRuntime) {
-    assert_found::<HostRuntime, PlainLeaf<u64, u64>>(&rt, rt.alloc());
+    assert_found_in_plain(&rt, rt.alloc());
 }
 
 /// Asserts what `kept` answers in blocks of a kind.
-fn assert_kept<R: Abort, L: Leaf<u64, u64>>(rt: &R, alloc: Global) {
-    assert_eq!(rt; kept::<R, L, 1>(rt, alloc, 9), (41, true));
-    assert_eq!(rt; kept::<R, L, 1>(rt, alloc, 10), (0, true));
-    assert_eq!(rt; kept::<R, L, 32>(rt, alloc, 9), (41, true));
-    assert_eq!(rt; kept::<R, L, 32>(rt, alloc, 10), (0, true));
+fn assert_kept<R: Abort, L: Leaf<u64, u64>, C: Ledger>(rt: &R, alloc: Global, blank: Blank)
+    requires { IsFresh C.name C.parts blank }
+{
+    let mut tests = Steps::<C>::start(blank);
+    assert_eq!(rt; kept::<R, L, C, 1>(rt, alloc, 9, &mut tests), (41, true));
+    assert_eq!(rt; kept::<R, L, C, 1>(rt, alloc, 10, &mut tests), (0, true));
+    assert_eq!(rt; kept::<R, L, C, 32>(rt, alloc, 9, &mut tests), (41, true));
+    assert_eq!(rt; kept::<R, L, C, 32>(rt, alloc, 10, &mut tests), (0, true));
+}
+
+/// Asserts it in plain blocks.
+fn assert_kept_in_plain<R: Abort>(rt: &R, alloc: Global) {
+    assert_kept::<R, PlainLeaf<u64, u64>, Brand>(rt, alloc, Blank::new(1));
 }
 
 #[test]
 fn a_filter_by_the_fold_passes_over_what_fails(rt: HostRuntime) {
-    assert_kept::<HostRuntime, PlainLeaf<u64, u64>>(&rt, rt.alloc());
+    assert_kept_in_plain(&rt, rt.alloc());
 }
