@@ -1,7 +1,7 @@
 -- Intervals by where they begin and end.
-use Rattle.std.proofs.Common.{◌≡◌, ℕ, ◌-◌, ◌^◌, ◌<◌, ◌&&◌, ◌||◌, ◌↔◌, IsTrue, Bool, true, false, cond, List, [], ◌∷◌, None, Some, nat_le, refl, ap, ◌∙◌, arith}
+use Rattle.std.proofs.Common.{◌≡◌, ℕ, ◌-◌, ◌^◌, ◌<◌, ◌≤◌, ◌&&◌, ◌||◌, ◌↔◌, IsTrue, Bool, true, false, cond, List, [], ◌∷◌, None, Some, nat_le, refl, ap, subst, ◌∙◌, arith}
 use Rattle.std.proofs.lemmas.Bool.Decides.{nat_tests}
-use Rattle.std.specs.List.{AllByRecursion, slice_get}
+use Rattle.std.specs.List.{AllByRecursion, filter, slice_get}
 use Rattle.std.specs.Map.{keys_of}
 use Rattle.std.specs.Option.{option_map}
 use Rattle.std.specs.Ordering.{is_ge, is_le}
@@ -11,7 +11,7 @@ use Rattle.aug_monoid.specs.declared.pair64.Pair64.{Pair64}
 use Rattle.map_model.specs.Fold.{aug_filter, fold_of}
 use Rattle.map_model.specs.Parts.{left_of, slice}
 use Rattle.interval_map.specs.Ends.{reaches, reaches_either}
-use Rattle.interval_map.specs.Intervals.{IsInterval, interval, overlap}
+use Rattle.interval_map.specs.Intervals.{IsInterval, contained, interval, overlap}
 
 -- an interval is at most the one that begins at p and ends last where it begins at most at p
 begins_by : (p : ℕ) (i : Pair64) → i.second < 2 ^ 64 → is_le (pair64_cmp i (interval p (2 ^ 64 - 1))) ≡ nat_le i.first p
@@ -20,6 +20,11 @@ begins_by p i h = grind (arith, nat_tests)
 -- no interval is less than the least one
 begins_from : (i : Pair64) → is_ge (pair64_cmp i (interval 0 0)) ≡ true
 begins_from i = grind (arith, nat_tests)
+
+-- an interval begins from lo to hi and ends at most at hi where it begins at least at lo and ends at most at hi
+begins_within : (lo hi : ℕ) (i : Pair64) → i.first ≤ i.second → i.second < 2 ^ 64
+    → ((is_ge (pair64_cmp i (interval lo 0)) && is_le (pair64_cmp i (interval hi (2 ^ 64 - 1)))) && nat_le i.second hi) ≡ (nat_le lo i.first && nat_le i.second hi)
+begins_within lo hi i ends fits = grind (arith, nat_tests)
 
 -- whether a list has an item
 abbrev some_of : {X : Type 0} → List X → Bool
@@ -46,6 +51,24 @@ module _ {V : Type 0} where
               | true ↦ ap (λ is. e.0 ∷ is) rest
               | false ↦ rest
             ]
+        | false ↦ rest
+      ])
+
+  -- of the intervals that begin from lo to hi the ones that end at most at hi
+  pub keys-contained : (m : List (Pair64 × V)) (lo hi : ℕ) → AllByRecursion IsInterval (keys_of m)
+      → filter (λ i. nat_le i.second hi) (keys_of (slice pair64_cmp m (interval lo 0) (interval hi (2 ^ 64 - 1)))) ≡ contained (keys_of m) lo hi
+  keys-contained [] lo hi a = refl
+  keys-contained (e ∷ m) lo hi a =
+      let begun = slice pair64_cmp m (interval lo 0) (interval hi (2 ^ 64 - 1)) in
+      let kept = contained (keys_of m) lo hi in
+      let rest : filter (λ i. nat_le i.second hi) (keys_of begun) ≡ kept = keys-contained m lo hi a.1 in
+      subst (λ (t : Bool). filter (λ i. nat_le i.second hi) (keys_of (slice pair64_cmp (e ∷ m) (interval lo 0) (interval hi (2 ^ 64 - 1)))) ≡ cond t (e.0 ∷ kept) kept) (begins_within lo hi e.0 a.0.0 a.0.1)
+      (elim (is_ge (pair64_cmp e.0 (interval lo 0)) && is_le (pair64_cmp e.0 (interval hi (2 ^ 64 - 1)))) as (λ b.
+      filter (λ i. nat_le i.second hi) (keys_of (cond b (e ∷ begun) begun)) ≡ cond (b && nat_le e.0.second hi) (e.0 ∷ kept) kept) [
+        | true ↦ elim (nat_le e.0.second hi) as (λ b. cond b (e.0 ∷ filter (λ i. nat_le i.second hi) (keys_of begun)) (filter (λ i. nat_le i.second hi) (keys_of begun)) ≡ cond b (e.0 ∷ kept) kept) [
+          | true ↦ ap (λ is. e.0 ∷ is) rest
+          | false ↦ rest
+        ]
         | false ↦ rest
       ])
 

@@ -39,7 +39,7 @@ module _ {V : Type 0} where
 
 -- ---- intervals stay intervals
 
-all_filter : (P : Pair64 → Type 0) (p : Pair64 → Bool) (is : List Pair64) → AllByRecursion P is → AllByRecursion P (filter p is)
+pub all_filter : (P : Pair64 → Type 0) (p : Pair64 → Bool) (is : List Pair64) → AllByRecursion P is → AllByRecursion P (filter p is)
 all_filter P p [] a = tt
 all_filter P p (i ∷ is) a = elim (p i) as (λ b. AllByRecursion P (cond b (i ∷ filter p is) (filter p is))) [
   | true ↦ (a.0, all_filter P p is a.1)

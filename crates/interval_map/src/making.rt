@@ -2,7 +2,7 @@
 ghost use Rattle.std.specs.Prelude.{◌≡◌, [], IfOk};
 ghost use Rattle.std.specs.List.{AllByRecursion};
 ghost use Rattle.std.specs.Map.{keys_of};
-ghost use Rattle.interval_map.specs.Intervals.{IsInterval, with_intervals};
+ghost use Rattle.interval_map.specs.Intervals.{IsInterval, common_intervals, with_intervals, without_intervals};
 
 use crate::intervals::Intervals;
 use aug_monoid::{First, NoMemory, Pair64};
@@ -37,6 +37,22 @@ impl Intervals {
         ensures { IfOk result (λ set. set ≡ with_intervals self.now other.now) }
     {
         let map = self.map.union(alloc, &other.map, &First)?;
+        Ok(Intervals { map })
+    }
+
+    /// The intervals of this set that `other` hasn't, in the time of `union`.
+    pub fn difference(&self, alloc: Global, other: &Intervals) -> Result<Intervals, NoMemory>
+        ensures { IfOk result (λ set. set ≡ without_intervals self.now other.now) }
+    {
+        let map = self.map.difference(alloc, &other.map)?;
+        Ok(Intervals { map })
+    }
+
+    /// The intervals that both sets have, in the time of `union`.
+    pub fn intersection(&self, alloc: Global, other: &Intervals) -> Result<Intervals, NoMemory>
+        ensures { IfOk result (λ set. set ≡ common_intervals self.now other.now) }
+    {
+        let map = self.map.intersection(alloc, &other.map, &First)?;
         Ok(Intervals { map })
     }
 }

@@ -30,13 +30,18 @@ fn with_one<R: Abort>(rt: &R, alloc: Global, intervals: Intervals, ends: (u64, u
     }
 }
 
-/// The set of the intervals.
-fn all<R: Abort>(rt: &R, alloc: Global) -> Intervals {
+/// The set of some intervals.
+fn set_of<R: Abort>(rt: &R, alloc: Global, ends: &[(u64, u64)]) -> Intervals {
     let mut intervals = Intervals::new();
-    for ends in &ENDS {
-        intervals = with_one(rt, alloc, intervals, *ends);
+    for pair in ends {
+        intervals = with_one(rt, alloc, intervals, *pair);
     }
     intervals
+}
+
+/// The set of the intervals.
+fn all<R: Abort>(rt: &R, alloc: Global) -> Intervals {
+    set_of(rt, alloc, &ENDS)
 }
 
 fn assert_hits<R: Abort>(rt: &R, hits: Result<Vec<Pair64>, NoMemory>, ends: &[(u64, u64)]) {
@@ -103,6 +108,80 @@ fn assert_overlaps<R: Abort>(rt: &R, alloc: Global, intervals: &Intervals) {
 #[test]
 fn the_intervals_that_overlap_a_range(rt: HostRuntime) {
     assert_overlaps(&rt, rt.alloc(), &all(&rt, rt.alloc()));
+}
+
+/// A range, and the ends of the intervals that lie in it.
+const CONTAINED: &[(u64, u64, &[(u64, u64)])] = &[
+    (0, 0, &[(0, 0)]),
+    (1, 1, &[]),
+    (2, 3, &[(2, 3), (3, 3)]),
+    (3, 8, &[(3, 3), (4, 5)]),
+    (3, 9, &[(3, 3), (3, 9), (4, 5)]),
+    (4, u64::MAX, &[(4, 5), (7, u64::MAX)]),
+    (0, u64::MAX, SORTED),
+    (u64::MAX, u64::MAX, &[]),
+    (9, 3, &[]),
+];
+
+fn assert_contained<R: Abort>(rt: &R, alloc: Global, intervals: &Intervals) {
+    for (lo, hi, ends) in CONTAINED {
+        assert_hits(rt, intervals.contained_in(alloc, *lo, *hi), ends);
+    }
+}
+
+#[test]
+fn the_intervals_that_lie_in_a_range(rt: HostRuntime) {
+    assert_contained(&rt, rt.alloc(), &all(&rt, rt.alloc()));
+}
+
+/// All intervals in order.
+const SORTED: &[(u64, u64)] = &[(0, 0), (2, 3), (3, 3), (3, 9), (4, 5), (7, u64::MAX)];
+
+/// Intervals of which the set has three, and others that share one end with one of its own.
+const OTHERS: [(u64, u64); 5] = [(7, u64::MAX), (3, 4), (4, 5), (0, 1), (3, 3)];
+
+/// Those of the set that are not among the others.
+const REST: &[(u64, u64)] = &[(0, 0), (2, 3), (3, 9)];
+
+/// The others that the set hasn't.
+const NEW: &[(u64, u64)] = &[(0, 1), (3, 4)];
+
+/// Those that both have.
+const BOTH: &[(u64, u64)] = &[(3, 3), (4, 5), (7, u64::MAX)];
+
+fn assert_set<R: Abort>(
+    rt: &R,
+    alloc: Global,
+    set: Result<Intervals, NoMemory>,
+    ends: &[(u64, u64)],
+) {
+    let set = set.expect(rt, "memory");
+    assert_hits(rt, set.overlap(alloc, 0, u64::MAX), ends);
+}
+
+fn assert_differences<R: Abort>(rt: &R, alloc: Global, here: &Intervals, there: &Intervals) {
+    assert_set(rt, alloc, here.difference(alloc, there), REST);
+    assert_set(rt, alloc, there.difference(alloc, here), NEW);
+    assert_set(rt, alloc, here.difference(alloc, &Intervals::new()), SORTED);
+    assert_set(rt, alloc, Intervals::new().difference(alloc, here), &[]);
+}
+
+#[test]
+fn the_intervals_that_another_set_has_not(rt: HostRuntime) {
+    let others = set_of(&rt, rt.alloc(), &OTHERS);
+    assert_differences(&rt, rt.alloc(), &all(&rt, rt.alloc()), &others);
+}
+
+fn assert_intersections<R: Abort>(rt: &R, alloc: Global, here: &Intervals, there: &Intervals) {
+    assert_set(rt, alloc, here.intersection(alloc, there), BOTH);
+    assert_set(rt, alloc, there.intersection(alloc, here), BOTH);
+    assert_set(rt, alloc, here.intersection(alloc, &Intervals::new()), &[]);
+}
+
+#[test]
+fn the_intervals_that_two_sets_have(rt: HostRuntime) {
+    let others = set_of(&rt, rt.alloc(), &OTHERS);
+    assert_intersections(&rt, rt.alloc(), &all(&rt, rt.alloc()), &others);
 }
 
 /// The sizes of a set without an interval, and of that without one that it hasn't.
