@@ -9,3 +9,5 @@ pub mod Distances
 pub mod Crosses
 pub mod Listed
 pub mod Elements
+pub mod Within
+pub mod Turned

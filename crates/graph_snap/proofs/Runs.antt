@@ -21,8 +21,8 @@ use Rattle.map_model.proofs.Keys.{AllKeys-append, AllKeys-map, IsBefore-from_app
 use Rattle.map_model.proofs.Lookups.{lookup-append}
 use Rattle.map_model.proofs.NatKeys.{nat_exact}
 use Rattle.map_model.proofs.Operations.{build-increasing}
-use Rattle.graph_snap.specs.Batches.{as_key, as_pairs, ends, run}
-use Rattle.graph_snap.specs.Edges.{AreSets, IsFilled, IsGraph, Sets, edge_order, edges_of, elements, pairs_of, with_edges}
+use Rattle.graph_snap.specs.Batches.{as_key, as_pairs, as_turned_key, ends, run}
+use Rattle.graph_snap.specs.Edges.{AreSets, IsFilled, IsGraph, Sets, edge_order, edges_of, elements, pairs_of, reversed, turned, with_edges}
 use Rattle.graph_snap.specs.declared.edge.Edge.{Edge}
 use Rattle.graph_snap.proofs.Sets.{fan}
 
@@ -69,13 +69,28 @@ keys-edges : (list : List Edge) → renamed pair64_cmp edge_order pair_of (λ a 
 keys-edges [] = refl
 keys-edges (e ∷ list) = ap (λ x. ((e.from, e.to), tt) ∷ x) (keys-edges list)
 
+-- keys put in order are the edges that they stand for
+ordered_keys : (keys : List (Pair64 × Unit {0})) (list : List (ℕ × ℕ)) → renamed pair64_cmp edge_order pair_of (λ a b. refl) keys ≡ elements list → as_pairs (build pair64_cmp keys) ≡ with_edges [] list
+ordered_keys keys list is =
+    keys-renamed (build pair64_cmp keys)
+    ∙ ap keys_of (after-renamed pair64_cmp edge_order pair_of (λ a b. refl) keys [] ∙ ap (λ x. after edge_order [] (puts x)) is)
+
 pub ordered_pairs : (list : List Edge) → as_pairs (build pair64_cmp (keys_of_edges list)) ≡ with_edges [] (pairs_of list)
-ordered_pairs list =
-    keys-renamed (build pair64_cmp (keys_of_edges list))
-    ∙ ap keys_of (after-renamed pair64_cmp edge_order pair_of (λ a b. refl) (keys_of_edges list) [] ∙ ap (λ x. after edge_order [] (puts x)) (keys-edges list))
+ordered_pairs list = ordered_keys (keys_of_edges list) (pairs_of list) (keys-edges list)
 
 pub in_order_is : (list : List Edge) (keys lent : List (Pair64 × Unit {0})) (pairs : List (ℕ × ℕ)) → keys ≡ build pair64_cmp (keys_of_edges list) → lent ≡ keys → pairs ≡ as_pairs lent → pairs ≡ with_edges [] (pairs_of list)
 in_order_is list keys lent pairs k l p = p ∙ ap as_pairs (l ∙ k) ∙ ordered_pairs list
+
+-- the same of edges turned round
+abbrev keys_of_turned : List Edge → List (Pair64 × Unit {0})
+keys_of_turned list = flat_map (λ e. as_turned_key e ∷ []) list
+
+keys-turned : (list : List Edge) → renamed pair64_cmp edge_order pair_of (λ a b. refl) (keys_of_turned list) ≡ elements (turned (pairs_of list))
+keys-turned [] = refl
+keys-turned (e ∷ list) = ap (λ x. ((e.to, e.from), tt) ∷ x) (keys-turned list)
+
+pub turned_order_is : (list : List Edge) (keys lent : List (Pair64 × Unit {0})) (pairs : List (ℕ × ℕ)) → keys ≡ build pair64_cmp (keys_of_turned list) → lent ≡ keys → pairs ≡ as_pairs lent → pairs ≡ reversed (pairs_of list)
+turned_order_is list keys lent pairs k l p = p ∙ ap as_pairs (l ∙ k) ∙ ordered_keys (keys_of_turned list) (turned (pairs_of list)) (keys-turned list)
 
 -- the set of one edge's end
 pub single_end : (edges : List (ℕ × ℕ)) (e : ℕ × ℕ) → length edges ≡ 1 → e ≡ get_or edges 0 e → build nat_cmp (ends edges) ≡ (e.1, tt) ∷ []

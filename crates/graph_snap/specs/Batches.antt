@@ -4,10 +4,15 @@ use Rattle.aug_monoid.specs.declared.pair64.Pair64.{Pair64}
 use Rattle.graph_snap.specs.Edges.{Sets, edges_of, with_edges, without_edges}
 use Rattle.graph_snap.specs.declared.edge.Edge.{Edge}
 
--- an edge as a key without value, and keys as edges
+-- an edge as a key without value
 abbrev pub as_key : Edge → Pair64 × Unit {0}
 as_key e = (record { first = e.from; second = e.to }, tt)
 
+-- an edge turned round, as such a key
+abbrev pub as_turned_key : Edge → Pair64 × Unit {0}
+as_turned_key e = (record { first = e.to; second = e.from }, tt)
+
+-- keys as edges
 abbrev pub as_pairs : List (Pair64 × Unit {0}) → List (ℕ × ℕ)
 as_pairs keys = map (λ e. (e.0.first, e.0.second)) keys
 

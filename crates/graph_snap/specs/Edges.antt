@@ -1,6 +1,6 @@
 -- A graph is the list of its edges, pairs of vertices that increase by the first vertex and then by the second.
-use Rattle.std.specs.Prelude.{◌≡◌, ◌==◌, ◌<◌, [], ℕ, List, Some, length, map}
-use Rattle.std.specs.List.{filter, flat_map}
+use Rattle.std.specs.Prelude.{◌≡◌, ◌==◌, ◌<◌, ◌↔◌, [], ℕ, List, Some, length, map}
+use Rattle.std.specs.List.{Contains, filter, flat_map}
 use Rattle.std.specs.Map.{keys_of}
 use Rattle.std.specs.Option.{unwrap_or}
 use Rattle.std.specs.declared.cmp.Ordering.{Ordering}
@@ -26,6 +26,18 @@ with_edges g list = keys_of (after edge_order (elements g) (puts (elements list)
 -- the graph without these edges
 abbrev pub without_edges : List (ℕ × ℕ) → List (ℕ × ℕ) → List (ℕ × ℕ)
 without_edges g list = keys_of (after edge_order (elements g) (dels list))
+
+-- edges, each turned round
+abbrev pub turned : List (ℕ × ℕ) → List (ℕ × ℕ)
+turned list = map (λ e. (e.1, e.0)) list
+
+-- the graph with each edge turned round
+abbrev pub reversed : List (ℕ × ℕ) → List (ℕ × ℕ)
+reversed g = with_edges [] (turned g)
+
+-- a graph has an edge just where another has the one the other way
+abbrev pub IsReverse : List (ℕ × ℕ) → List (ℕ × ℕ) → Type 0
+IsReverse g other = (u v : ℕ) → Contains other (v, u) ↔ Contains g (u, v)
 
 -- the vertices with an out-neighbour, in order
 abbrev pub sources : List (ℕ × ℕ) → List ℕ

@@ -1,6 +1,6 @@
 -- Walks, and what they reach.
-use Rattle.std.specs.Prelude.{◌≡◌, ◌&&◌, ◌+◌, ◌==◌, ◌≤◌, ◌↔◌, [], ◌∷◌, ℕ, suc, zero, Bool, true, List, Option, None, Some, cond, length, map}
-use Rattle.std.specs.List.{Contains, filter_map, flat_map, list_any}
+use Rattle.std.specs.Prelude.{◌≡◌, ◌&&◌, ◌+◌, ◌==◌, ◌≤◌, ◌↔◌, [], ◌∷◌, ℕ, suc, zero, Bool, true, List, Option, None, Some, cond, length, map, nat_le}
+use Rattle.std.specs.List.{Contains, filter, filter_map, flat_map, list_any}
 use Rattle.std.specs.Map.{keys_of}
 use Rattle.std.specs.Option.{option_map, option_or}
 use Rattle.std.specs.Ordering.{nat_cmp}
@@ -37,6 +37,10 @@ as_reached found = map (λ r. record { vertex = r.0; distance = r.1 }) found
 -- what a search from s finds
 abbrev pub reach : List (ℕ × ℕ) → ℕ → List Reached
 reach g s = as_reached (distances g s)
+
+-- what of it walks of at most so many edges reach
+abbrev pub reach_within : List (ℕ × ℕ) → ℕ → ℕ → List Reached
+reach_within g s most = filter (λ r. nat_le r.distance most) (reach g s)
 
 -- a list has a vertex with a distance just where that is the least number of edges of a walk to it
 abbrev pub HasDistances : List (ℕ × ℕ) → ℕ → List Reached → Type 0

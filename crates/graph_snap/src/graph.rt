@@ -1,15 +1,15 @@
 //! Graphs, which no call changes.
 ghost use Rattle.std.specs.Prelude.{◌≡◌, ◌↔◌, [], Contains, length, IfOk, IsTrue};
-ghost use Rattle.graph_snap.specs.Edges.{AreSets, IsGraph, edges_of, out_neighbours, pairs_of, sources};
-ghost use Rattle.graph_snap.specs.Edges.{with_edges, without_edges};
-ghost use Rattle.graph_snap.specs.Walks.{HasDistances, reach};
+ghost use Rattle.graph_snap.specs.Edges.{AreSets, IsGraph, IsReverse, edges_of, out_neighbours, pairs_of};
+ghost use Rattle.graph_snap.specs.Edges.{reversed, sources, with_edges, without_edges};
+ghost use Rattle.graph_snap.specs.Walks.{HasDistances, reach, reach_within};
 
-use crate::batch::sets_of;
+use crate::batch::{sets_of, turned_sets};
 use crate::counting::edges_in;
 use crate::edge::{Edge, Reached};
 use crate::listing::edge_list;
 use crate::search::search;
-use crate::search_alone::search_alone;
+use crate::search_alone::{search_alone, search_within};
 use crate::vertices::{
     Vertices, degree_at, has_edge, neighbours_at, with_sets, with_sets_into, without_sets,
 };
@@ -184,6 +184,19 @@ impl Graph {
         Ok(Graph { vertices, edges })
     }
 
+    /// The graph with each edge turned round, on one thread. A vertex without in-neighbours has no edge there, and is not part of
+    /// it. O(m * log m) for m edges.
+    pub fn reversed(&self, alloc: Global) -> Result<Graph, NoMemory>
+        ensures value { IfOk result (λ graph. graph ≡ reversed self.now) }
+        ensures turned { IfOk result (λ graph. IsReverse self.now graph) }
+    {
+        let list = self.list(alloc)?;
+        let sets = turned_sets(alloc, &list)?;
+        let vertices = Vertices::build_alone(alloc, &sets)?;
+        let edges = edges_in(&vertices)?;
+        Ok(Graph { vertices, edges })
+    }
+
     /// The vertices that walks from `from` reach, in order, each with the least number of edges of such a walk; `from` itself
     /// is at 0. For each distance it gathers the out-neighbours of the vertices there, in parts that fork where the cut allows
     /// it, and sorts them. O(m * log(n * m)) for m edges from what is reached, and n vertices.
@@ -207,5 +220,13 @@ impl Graph {
         ensures least { IfOk result (λ found. HasDistances self.now from found.items) }
     {
         search_alone(alloc, &self.vertices, from)
+    }
+
+    /// What `bfs_alone` answers, but for the vertices that take more than `most` edges. It stops at that distance.
+    /// O(m * log(n * m)) for m edges from the vertices at less than `most`, and n vertices.
+    pub fn within(&self, alloc: Global, from: u64, most: u64) -> Result<Vec<Reached>, NoMemory>
+        ensures { IfOk result (λ found. found.items ≡ reach_within self.now from most) }
+    {
+        search_within(alloc, &self.vertices, from, most)
     }
 }

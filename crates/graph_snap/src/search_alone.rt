@@ -5,7 +5,7 @@ ghost use Rattle.map_model.specs.Entries.{IsIncreasing};
 ghost use Rattle.map_model.specs.SetOperations.{difference};
 ghost use Rattle.graph_snap.specs.Edges.{AreSets, edges_of};
 ghost use Rattle.graph_snap.specs.Merging.{at_distance, neighbours_of, next_front};
-ghost use Rattle.graph_snap.specs.Walks.{reach};
+ghost use Rattle.graph_snap.specs.Walks.{reach, reach_within};
 
 use crate::edge::Reached;
 use crate::search::{
@@ -88,6 +88,30 @@ pub(crate) fn search_alone(
     let mut distance: u64 = 0;
     'levels: while front.len() > 0 {
         distance = further(distance)?;
+        front = next_front_alone(alloc, vertices, &front, &found, distance)?;
+        found = found.union_into_alone(alloc, &front, &First)?;
+    }
+    listed(alloc, &found)
+}
+
+/// What walks of at most `most` edges from a vertex reach, with the least numbers of edges, on one thread.
+pub(crate) fn search_within(
+    alloc: Global,
+    vertices: &Vertices,
+    from: u64,
+    most: u64,
+) -> Result<Vec<Reached>, NoMemory>
+    requires { AreSets vertices.now.entries }
+    ensures { IfOk result (λ found. found.items ≡ reach_within (edges_of vertices.now.entries) from most) }
+{
+    let mut front = first_front(alloc, from)?;
+    let mut found = Distances::single(alloc, from, 0)?;
+    let mut distance: u64 = 0;
+    'levels: while front.len() > 0 {
+        if distance >= most {
+            return listed(alloc, &found);
+        }
+        distance += 1;
         front = next_front_alone(alloc, vertices, &front, &found, distance)?;
         found = found.union_into_alone(alloc, &front, &First)?;
     }

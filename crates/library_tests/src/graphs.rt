@@ -1,7 +1,7 @@
 //! Small graphs, whose counts and searches were found by hand. Where memory is refused, a test ends here.
 use aug_monoid::Share;
 use fork_join::{Cut, FreeGate};
-use graph_snap::{Edge, Graph};
+use graph_snap::{Edge, Graph, Reached};
 use meeting::Meeting;
 use std::alloc::Global;
 use std::marker::Sync;
@@ -74,7 +74,15 @@ fn the_sets_of_a_snapshot(rt: HostRuntime) {
     assert_sizes(&rt, rt.alloc(), &share, &[2, 2, 1]);
 }
 
-/// Asserts what a search finds, as vertices with their distances.
+/// Asserts what was reached, as vertices with their distances.
+fn assert_reached<R: Abort>(rt: &R, list: &[Reached], wanted: &[(u64, u64)]) {
+    assert_eq!(rt; list.len(), wanted.len());
+    for (reached, pair) in list.iter().zip(wanted) {
+        assert_eq!(rt; (reached.vertex, reached.distance), *pair);
+    }
+}
+
+/// Asserts what a search finds.
 fn assert_found<R: Threads + Abort + Sync>(
     rt: &R,
     alloc: Global,
@@ -85,10 +93,7 @@ fn assert_found<R: Threads + Abort + Sync>(
     let list = graph
         .bfs(rt, alloc, &FreeGate, Cut::new(2, 1), from)
         .expect(rt, "memory");
-    assert_eq!(rt; list.len(), wanted.len());
-    for (reached, pair) in list.iter().zip(wanted) {
-        assert_eq!(rt; (reached.vertex, reached.distance), *pair);
-    }
+    assert_reached(rt, &list, wanted);
 }
 
 const WAYS: &[(u64, u64)] = &[(5, 1), (1, 2), (2, 3), (3, 4), (1, 4), (4, 5), (7, 8)];
@@ -103,6 +108,52 @@ fn a_search_by_the_shortest_way(rt: HostRuntime) {
     assert_found(&rt, rt.alloc(), &all, 1, BY_4);
     let left = graph_of(&rt, rt.alloc(), WAYS, &[(1, 4), (8, 7)]);
     assert_found(&rt, rt.alloc(), &left, 1, ROUND);
+}
+
+/// Asserts what a search that stops at a distance finds.
+fn assert_within<R: Abort>(
+    rt: &R,
+    alloc: Global,
+    graph: &Graph,
+    from: u64,
+    most: u64,
+    wanted: &[(u64, u64)],
+) {
+    let list = graph.within(alloc, from, most).expect(rt, "memory");
+    assert_reached(rt, &list, wanted);
+}
+
+#[test]
+fn a_search_that_stops_at_a_distance(rt: HostRuntime) {
+    let alloc = rt.alloc();
+    let graph = graph_of(&rt, alloc, WAYS, &[]);
+    assert_within(&rt, alloc, &graph, 1, 0, &[(1, 0)]);
+    assert_within(&rt, alloc, &graph, 1, 1, &[(1, 0), (2, 1), (4, 1)]);
+    assert_within(&rt, alloc, &graph, 1, 2, BY_4);
+    assert_within(&rt, alloc, &graph, 1, u64::MAX, BY_4);
+    assert_within(&rt, alloc, &graph, 9, 3, &[(9, 0)]);
+}
+
+/// The edges of the graph of `ADDED`, each turned round, in order.
+const TURNED: &[(u64, u64)] = &[(1, 1), (1, 2), (2, 1), (3, 3), (4, 2)];
+
+/// Asserts what edges there are when each is turned round.
+fn assert_reversed<R: Abort>(rt: &R, alloc: Global, graph: &Graph, wanted: &[(u64, u64)]) {
+    let reversed = graph.reversed(alloc).expect(rt, "memory");
+    let list = reversed.list(alloc).expect(rt, "memory");
+    assert_eq!(rt; reversed.edges(), wanted.len() as u64);
+    assert_eq!(rt; list.len(), wanted.len());
+    for (edge, pair) in list.iter().zip(wanted) {
+        assert_eq!(rt; (edge.from, edge.to), *pair);
+    }
+}
+
+#[test]
+fn each_edge_turned_round(rt: HostRuntime) {
+    let alloc = rt.alloc();
+    assert_reversed(&rt, alloc, &graph_of(&rt, alloc, &ADDED, &[]), TURNED);
+    assert_reversed(&rt, alloc, &graph_of(&rt, alloc, &[(2, 9)], &[]), &[(9, 2)]);
+    assert_reversed(&rt, alloc, &Graph::new(), &[]);
 }
 
 /// From 0 to each of 1 to 500, and from each of these to 501.
