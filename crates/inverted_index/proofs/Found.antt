@@ -1,17 +1,19 @@
 -- What queries answer, from what is found step by step.
 use Rattle.std.proofs.Common.{◌≡◌, ℕ, List, [], map, sym, take, ap, ◌∙◌, subst}
 use Rattle.std.specs.List.Sorted.{IsPermutation}
+use Rattle.std.specs.Option.{is_some}
 use Rattle.std.specs.Ordering.{nat_cmp}
-use Rattle.map_model.specs.Entries.{IsIncreasing}
+use Rattle.map_model.specs.Entries.{IsIncreasing, lookup}
 use Rattle.map_model.specs.SetOperations.{difference}
 use Rattle.inverted_index.specs.Documents.{IsIndex, documents_of}
 use Rattle.inverted_index.specs.Merging.{Lists, common, common_of, union_all, postings_at}
-use Rattle.inverted_index.specs.Queries.{AreTop, Document, all_of, any_of, having, hits_of, ranked, without}
+use Rattle.inverted_index.specs.Queries.{AreTop, Document, all_of, any_of, having, hits_of, is_known, ranked, without}
 use Rattle.inverted_index.specs.Ranks.{AreLow}
 use Rattle.inverted_index.proofs.Gathering.{Rises, all_of-common, any_of-union_all, common_from_first, having-postings, rises_at, without-difference}
 use Rattle.inverted_index.specs.declared.hit.Hit.{Hit}
 use Rattle.inverted_index.proofs.Ranked.{top_ranked}
 use Rattle.inverted_index.proofs.Ranks.{low_fits}
+use Rattle.inverted_index.proofs.OneMore.{known-documents}
 
 module _ (D : List (ℕ × ℕ)) (P : Lists) (ds : List Document) (index : IsIndex D P) (view : documents_of D P ≡ ds) where
   pub all_found : (terms : List (List ℕ)) (lists sorted slice : List (List (ℕ × ℕ))) (found : List (ℕ × ℕ)) → lists ≡ map (postings_at P) terms → IsPermutation lists sorted → slice ≡ sorted → found ≡ common_of D slice → IsIncreasing nat_cmp found → found ≡ all_of ds terms
@@ -46,3 +48,7 @@ module _ (D : List (ℕ × ℕ)) (P : Lists) (ds : List Document) (index : IsInd
       let Up : List (ℕ × ℕ) → Type 0 = λ m. IsIncreasing nat_cmp m in
       let found = one_found t a is in
       top_ranked (having ds t) k hits (subst Up (sym is ∙ found) up.0) (has ∙ ap (λ x. hits_of (take k (ranked x))) found)
+
+-- whether a document is there
+pub doc_found : (D : List (ℕ × ℕ)) (P : Lists) (ds : List Document) (doc : ℕ) → documents_of D P ≡ ds → is_some (lookup nat_cmp D doc) ≡ is_known ds doc
+doc_found D P ds doc view = sym (known-documents D P doc) ∙ ap (λ d. is_known d doc) view

@@ -119,7 +119,7 @@ module _ (D : List (ℕ × ℕ)) (P : Lists) (index : IsIndex D P) where
   all_rise [] = tt
   all_rise (t ∷ terms) = (rises_at t, all_rise terms)
 
-  known_at : (t : List ℕ) (q w : ℕ) → lookup nat_cmp (postings_at P t) q ≡ Some w → is_some (lookup nat_cmp D q) ≡ true
+  pub known_at : (t : List ℕ) (q w : ℕ) → lookup nat_cmp (postings_at P t) q ≡ Some w → is_some (lookup nat_cmp D q) ≡ true
   known_at t q w = elim (lookup bytes_cmp P t) as (λ o. lookup bytes_cmp P t ≡ o → lookup nat_cmp (unwrap_or o []) q ≡ Some w → is_some (lookup nat_cmp D q) ≡ true) [
     | None ↦ λ _ is. absurd (let bad : ◌≡◌ {A = Option ℕ} None (Some w) = is in cc)
     | Some m ↦ λ has is. (index.are_postings t m has).are_known q w is

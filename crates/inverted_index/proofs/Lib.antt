@@ -13,3 +13,4 @@ pub mod Batches
 pub mod Batched
 pub mod Contents
 pub mod Crosses
+pub mod Removed

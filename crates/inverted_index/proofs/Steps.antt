@@ -41,7 +41,7 @@ marks_end all list known docs n high so_far = sym (so_far ∙ ap (λ l. list ++ 
 pub known_end : (all known : List (ℕ × ℕ)) (docs : List Doc) (n : ℕ) → length docs ≤ n → all ≡ all_knowing known (drop n docs) → known ≡ all
 known_end all known docs n high so_far = sym (so_far ∙ ap (all_knowing known) (drop_all n docs high))
 
-rest_from : {X : Type 0} (xs : List X) (i : ℕ) (d : X) → i < length xs → drop i xs ≡ get_or xs i d ∷ drop (i + 1) xs
+pub rest_from : {X : Type 0} (xs : List X) (i : ℕ) (d : X) → i < length xs → drop i xs ≡ get_or xs i d ∷ drop (i + 1) xs
 rest_from xs i d low = let next : suc i ≡ i + 1 = omega arith in drop-cons xs i d low ∙ ap (λ n. get_or xs i d ∷ drop n xs) next
 
 pub known_more : (all before after : List (ℕ × ℕ)) (docs : List Doc) (i : ℕ) (d : Doc) → i < length docs → all ≡ all_knowing before (drop i docs) → after ≡ knowing before (get_or docs i d).doc → all ≡ all_knowing after (drop (i + 1) docs)

@@ -1,5 +1,5 @@
 -- What adding a document answers.
-use Rattle.std.specs.Prelude.{◌≡◌, ℕ, List, [], ◌∷◌, true, false, length, if◌then◌else◌}
+use Rattle.std.specs.Prelude.{◌≡◌, ℕ, List, [], ◌∷◌, true, false, length, if◌then◌else◌, ⊤}
 use Rattle.std.specs.List.{fold}
 use Rattle.std.specs.Ordering.{nat_cmp}
 use Rattle.map_model.specs.Entries.{set}
@@ -15,6 +15,11 @@ use Rattle.inverted_index.specs.declared.doc.Outcome.TheVariants as outcomes
 abbrev pub IsAdded : List Document → ℕ → List ℕ → Added → Type 0
 IsAdded ds doc text added.Known = is_known ds doc ≡ true
 IsAdded ds doc text (added.New index terms) = (is_known ds doc ≡ false) × (index ≡ set nat_cmp ds doc (weights_of text)) × (terms ≡ length (weights_of text))
+
+-- the document was not there
+abbrev pub IsNew : Added → Type 0
+IsNew added.Known = ⊥
+IsNew (added.New index terms) = ⊤
 
 -- the documents with one more and the terms of its text, and as they are where it is known
 abbrev pub with_doc : List Document → ℕ → List ℕ → List Document

@@ -1,5 +1,5 @@
 -- The documents that two maps keep: one of the known documents, and one from terms to their postings, which are documents with weights.
-use Rattle.std.specs.Prelude.{◌≡◌, ℕ, ◌-◌, ◌^◌, ◌≤◌, List, [], Some, true, map, is_some}
+use Rattle.std.specs.Prelude.{◌≡◌, ℕ, ◌-◌, ◌^◌, ◌≤◌, ◌==◌, List, [], Some, true, filter, map, is_some, not}
 use Rattle.std.specs.List.{filter_map}
 use Rattle.std.specs.Option.{option_map}
 use Rattle.std.specs.Ordering.{nat_cmp}
@@ -13,6 +13,10 @@ terms_in postings doc = filter_map (λ e. option_map (λ w. (e.0, w)) (lookup na
 -- the known documents by rising number, each with its terms
 abbrev pub documents_of : List (ℕ × ℕ) → List (List ℕ × List (ℕ × ℕ)) → List (ℕ × List (List ℕ × ℕ))
 documents_of known postings = map (λ e. (e.0, terms_in postings e.0)) known
+
+-- documents without one, which need not be among them
+abbrev pub without_doc : List (ℕ × List (List ℕ × ℕ)) → ℕ → List (ℕ × List (List ℕ × ℕ))
+without_doc ds doc = filter (λ d. not (d.0 == doc)) ds
 
 -- weights of 64 bits
 abbrev pub AreFit : List (List ℕ × ℕ) → Type 0

@@ -6,3 +6,4 @@ pub mod Faults
 pub mod Merging
 pub mod Added
 pub mod Batches
+pub mod Removing

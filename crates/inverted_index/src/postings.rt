@@ -1,13 +1,15 @@
 //! Postings: documents with weights.
-ghost use Rattle.std.specs.Prelude.{◌≡◌, [], IfOk};
+ghost use Rattle.std.specs.Prelude.{◌≡◌, [], IfOk, is_some};
 ghost use Rattle.std.specs.Ordering.{nat_cmp};
+ghost use Rattle.map_model.specs.Entries.{drop_key, lookup};
 ghost use Rattle.map_model.specs.Operations.{build};
 ghost use Rattle.inverted_index.specs.Merging.{merged};
 
 use aug_map::PlainMap;
-use aug_monoid::{First, NoMemory, Resolve, Share, SumMax};
+use aug_monoid::{First, NoMemory, Resolve, Share, Steps, SumMax};
 use std::alloc::Global;
 use std::marker::Model;
+use std::sync::ledger::Ledger;
 
 /// Weights by document, with the greatest of them.
 pub type Weights = PlainMap<SumMax<u64>>;
@@ -46,6 +48,32 @@ impl Postings {
         ensures { IfOk result (λ postings. postings ≡ build nat_cmp pairs.now) }
     {
         let weights = Weights::build_alone(alloc, pairs)?;
+        Ok(Postings { weights })
+    }
+
+    /// Whether they have a document.
+    pub(crate) fn has<C: Ledger>(
+        &self,
+        alloc: Global,
+        doc: u64,
+        steps: &mut Steps<C>,
+    ) -> Result<bool, NoMemory>
+        ensures { IfOk result (λ found. found ≡ is_some (lookup nat_cmp self.now doc)) }
+    {
+        let weight = self.weights.get(alloc, &doc, steps)?;
+        Ok(weight.is_some())
+    }
+
+    /// The postings without a document, which they need not have.
+    pub(crate) fn del<C: Ledger>(
+        &self,
+        alloc: Global,
+        doc: u64,
+        steps: &mut Steps<C>,
+    ) -> Result<Postings, NoMemory>
+        ensures { IfOk result (λ postings. postings ≡ drop_key nat_cmp self.now doc) }
+    {
+        let weights = self.weights.del(alloc, &doc, steps)?;
         Ok(Postings { weights })
     }
 

@@ -1,10 +1,10 @@
 //! Questions to an index.
-ghost use Rattle.std.specs.Prelude.{◌≡◌, IfOk};
+ghost use Rattle.std.specs.Prelude.{◌≡◌, IfOk, is_some, length};
 ghost use Rattle.std.specs.Ordering.{nat_cmp};
-ghost use Rattle.map_model.specs.Entries.{IsIncreasing};
+ghost use Rattle.map_model.specs.Entries.{IsIncreasing, lookup};
 ghost use Rattle.map_model.specs.SetOperations.{difference};
 ghost use Rattle.inverted_index.specs.Merging.{postings_at};
-ghost use Rattle.inverted_index.specs.Queries.{AreTop, all_of, any_of, having, hits_of, top, without};
+ghost use Rattle.inverted_index.specs.Queries.{AreTop, all_of, any_of, having, hits_of, is_known, top, without};
 ghost use Rattle.aug_monoid.specs.Fresh.{IsFresh};
 
 use crate::finding::{by_size, common_of, find_list, find_lists, hits_of, union_all};
@@ -34,7 +34,34 @@ fn find_one<C: Ledger>(
     find_list(alloc, lists, term, &mut steps)
 }
 
+// Whether a document is among the known ones.
+fn is_known<C: Ledger>(alloc: Global, known: &Weights, doc: u64, blank: Blank) -> bool
+    requires { IsFresh C.name C.parts blank }
+    ensures { result ≡ is_some (lookup nat_cmp known.now.entries doc) }
+{
+    let mut steps = Steps::<C>::start(blank);
+    match known.get(alloc, &doc, &mut steps) {
+        Ok(weight) => weight.is_some(),
+        Err(NoMemory) => unreachable!(),
+    }
+}
+
 impl Index {
+    /// Whether a document is there. It takes no memory, and refuses nothing. O(log n) for n documents.
+    pub fn has_doc(&self, alloc: Global, doc: u64) -> bool
+        ensures { result ≡ is_known self.now doc }
+    {
+        is_known::<Brand>(alloc, &self.known, doc, Blank::new(1))
+    }
+
+    /// How many documents have a term. O(log t) for an index of t terms.
+    pub fn doc_freq(&self, alloc: Global, term: &Term) -> Result<u64, NoMemory>
+        ensures { IfOk result (λ count. count ≡ length (having self.now term.now)) }
+    {
+        let list = find_one::<Brand>(alloc, &self.lists, term, Blank::new(1))?;
+        Ok(list.map().size())
+    }
+
     /// The documents that have all terms, by rising number. The weight of a document is the saturating sum of its weights of
     /// the terms, as often as they are named. Postings are intersected smallest first. O(k * m * log(n / m + 1)) work for k
     /// terms, of which the rarest has m documents and the commonest n, beside the look-ups of the terms.

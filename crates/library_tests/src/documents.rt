@@ -242,3 +242,102 @@ fn documents_by_falling_weight(rt: HostRuntime) {
     let index = indexed(&rt, rt.alloc());
     assert_top(&rt, rt.alloc(), &index);
 }
+
+/// The documents that have a term, counted.
+const COUNTED: &[(&[u8], u64)] = &[(b"TO", 2), (b"not", 2), (b"be", 1), (b"absent", 0)];
+
+fn assert_counted<R: Abort>(rt: &R, alloc: Global, index: &Index) {
+    for (word, count) in COUNTED {
+        let found = index.doc_freq(alloc, &term(rt, alloc, word));
+        assert_eq!(rt; found.expect(rt, "memory"), *count);
+    }
+}
+
+#[test]
+fn documents_that_have_a_term_are_counted(rt: HostRuntime) {
+    let index = indexed(&rt, rt.alloc());
+    assert_counted(&rt, rt.alloc(), &index);
+}
+
+/// Numbers, and whether the documents are there.
+const THERE: &[(u64, bool)] = &[(6, true), (9, true), (0, false), (u64::MAX, false)];
+
+#[test]
+fn a_document_without_terms_is_there_too(rt: HostRuntime) {
+    let index = indexed(&rt, rt.alloc());
+    for (doc, is_there) in THERE {
+        assert_eq!(rt; index.has_doc(rt.alloc(), *doc), *is_there);
+    }
+}
+
+/// The index without a document.
+fn removed<R: Threads + Abort + Sync>(rt: &R, alloc: Global, doc: u64) -> Index {
+    let rest = indexed(rt, alloc).remove_doc(alloc, doc);
+    rest.expect(rt, "memory")
+}
+
+/// A document that is removed, and how many documents and terms are left.
+const LEFT: &[(u64, u64, u64)] = &[(9, 3, 4), (4, 3, 5), (6, 3, 6), (5, 4, 6)];
+
+fn assert_left<R: Threads + Abort + Sync>(rt: &R, alloc: Global, row: &(u64, u64, u64)) {
+    let rest = removed(rt, alloc, row.0);
+    assert_eq!(rt; (rest.size(), rest.map().size()), (row.1, row.2));
+}
+
+#[test]
+fn a_term_of_one_document_goes_with_it(rt: HostRuntime) {
+    for row in LEFT {
+        assert_left(&rt, rt.alloc(), row);
+    }
+}
+
+/// Asserts which documents have a word, with its weights, by falling weight.
+fn assert_word<R: Abort>(rt: &R, alloc: Global, index: &Index, word: &[u8], wanted: &[(u64, u64)]) {
+    assert_hits(rt, index.top(alloc, 9, &term(rt, alloc, word)), wanted);
+}
+
+#[test]
+fn a_document_that_is_removed_is_found_no_more(rt: HostRuntime) {
+    let rest = removed(&rt, rt.alloc(), 9);
+    assert_word(&rt, rt.alloc(), &rest, b"to", &[(1, 1)]);
+    assert_word(&rt, rt.alloc(), &rest, b"not", &[(4, 1)]);
+    assert_word(&rt, rt.alloc(), &rest, b"be", &[]);
+}
+
+#[test]
+fn a_document_that_is_removed_and_added_again_has_its_rank(rt: HostRuntime) {
+    let rest = removed(&rt, rt.alloc(), 9);
+    let again = with_text(&rt, rt.alloc(), rest, 9, b"to be, or not to be");
+    assert_top(&rt, rt.alloc(), &again);
+}
+
+/// The index with a document in place of another.
+fn replaced<R: Threads + Abort + Sync>(
+    rt: &R,
+    alloc: Global,
+    index: &Index,
+    doc: u64,
+    text: &[u8],
+) -> Option<Index> {
+    let added = index.replace_doc(rt, alloc, &FreeGate, Cut::new(2, 1), doc, text);
+    match added.expect(rt, "memory") {
+        Added::Known => None,
+        Added::New { index, terms: _ } => Some(index),
+    }
+}
+
+#[test]
+fn a_document_takes_the_place_of_another(rt: HostRuntime) {
+    let index = indexed(&rt, rt.alloc());
+    let after = replaced(&rt, rt.alloc(), &index, 9, b"Be yet").expect(&rt, "a document");
+    assert_word(&rt, rt.alloc(), &after, b"yet", &[(4, 1), (9, 1)]);
+    assert_word(&rt, rt.alloc(), &after, b"to", &[(1, 1)]);
+    assert_top(&rt, rt.alloc(), &index);
+}
+
+#[test]
+fn a_document_that_takes_no_place_is_added(rt: HostRuntime) {
+    let index = indexed(&rt, rt.alloc());
+    let after = replaced(&rt, rt.alloc(), &index, 5, b"Yet YET").expect(&rt, "a document");
+    assert_word(&rt, rt.alloc(), &after, b"yet", &[(5, 2), (4, 1)]);
+}
