@@ -22,6 +22,7 @@ mod aliases;
 mod alone;
 mod bulk;
 mod changes;
+mod counted;
 mod cross;
 mod entries;
 mod finding;

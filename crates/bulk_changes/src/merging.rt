@@ -4,9 +4,10 @@ ghost use Rattle.std.specs.Option.{option_map, option_map_or};
 ghost use Rattle.map_model.specs.Entries.{IsIncreasing};
 ghost use Rattle.map_model.specs.SetOperations.{union};
 
-use aug_monoid::{Key, NoMemory, Resolve, Share};
+use aug_monoid::{Key, NoMemory, Resolve, Share, Steps};
 use entry_lists::{SliceParts, cut_front, push_all_shared};
 use std::alloc::Global;
+use std::sync::ledger::Ledger;
 
 /// The value that a key has after it had another one: what `how` makes of both, or that one where there is no other.
 pub(crate) fn resolved<V: Drop, H: Resolve<V>>(
@@ -26,11 +27,12 @@ pub(crate) fn resolved<V: Drop, H: Resolve<V>>(
 /// The entries of the vector or the slice. At a key of both the value is what `how` makes of the value in the vector and the
 /// value in the slice. The other entries of the vector are moved, and those of the slice shared. O(m + k) for m entries
 /// and a slice of k.
-pub(crate) fn merge_into<K: Key, V: Share, H: Resolve<V>>(
+pub(crate) fn merge_into<K: Key, V: Share, H: Resolve<V>, C: Ledger>(
     alloc: Global,
     entries: Vec<(K, V)>,
     few: &[(K, V)],
     how: &H,
+    steps: &mut Steps<C>,
 ) -> Result<Vec<(K, V)>, NoMemory>
     requires first { IsIncreasing K.cmp entries.items }
     requires second { IsIncreasing K.cmp few.now }
@@ -39,7 +41,7 @@ pub(crate) fn merge_into<K: Key, V: Share, H: Resolve<V>>(
     let mut out = Vec::with_capacity(alloc, entries.len().saturating_add(few.len()))?;
     let mut rest = few;
     for entry in entries {
-        let parts = cut_front(rest, &entry.0);
+        let parts = cut_front(rest, &entry.0, steps);
         rest = parts.above;
         push_merged(alloc, &mut out, entry, parts, how)?;
     }

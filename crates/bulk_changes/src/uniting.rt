@@ -1,5 +1,6 @@
 //! Union with a slice.
 ghost use Rattle.std.specs.Prelude.{◌≡◌, IfOk, length};
+ghost use Rattle.aug_monoid.specs.Fresh.{IsFresh};
 ghost use Rattle.fork_join.specs.Openings.{IsOpened};
 ghost use Rattle.map_model.specs.Entries.{IsIncreasing};
 ghost use Rattle.bulk_changes.specs.Parts.{IsPutTogether, union_of_part};
@@ -11,7 +12,8 @@ use aug_monoid::{NoMemory, Resolve, Steps};
 use entry_lists::cut_slice;
 use fork_join::{Divide, Opened};
 use std::alloc::Global;
-use std::sync::ledger::Ledger;
+use std::marker::Brand;
+use std::sync::ledger::{Blank, Ledger};
 use tree_make::{joined, tree_of};
 use tree_shape::{Shape, Tree};
 
@@ -56,7 +58,7 @@ impl<'a, 'b, M: IntoShape, H: Resolve<M::Val>> Divide<
         _steps: &mut Steps<C>,
     ) -> Result<Opened<(Tree<M>, &'b [(M::Key, M::Val)]), (M::Key, M::Val), Tree<M>>, NoMemory> {
         let (tree, list) = part;
-        open_part::<M, H>(alloc, self.how, tree, list)
+        open_alone::<M, H, Brand>(alloc, self.how, tree, list, Blank::new(1))
     }
 
     fn close<C: Ledger>(
@@ -71,13 +73,30 @@ impl<'a, 'b, M: IntoShape, H: Resolve<M::Val>> Divide<
     }
 }
 
-/// A map that stays as it is, one of at most one block, whose entries are merged with the slice, or one whose top is a node,
-/// at whose key the slice is cut.
-fn open_part<'b, M: IntoShape, H: Resolve<M::Val>>(
+/// `open_part` with a counter of its own: what an opening takes is bounded by no clause here.
+fn open_alone<'b, M: IntoShape, H: Resolve<M::Val>, C: Ledger>(
     alloc: Global,
     how: &H,
     tree: Tree<M>,
     list: &'b [(M::Key, M::Val)],
+    blank: Blank,
+) -> Result<Opened<(Tree<M>, &'b [(M::Key, M::Val)]), (M::Key, M::Val), Tree<M>>, NoMemory>
+    requires increasing { IsIncreasing M.Key.cmp list.now }
+    requires fresh { IsFresh C.name C.parts blank }
+    ensures { IfOk result (IsOpened (λ part. IsIncreasing M.Key.cmp part.1.now) (λ out. out.entries ≡ union_of_part M.Key.cmp (H.resolved how.now) (tree, list.entry)) (IsPutTogether M.Key.cmp (H.resolved how.now) (tree, list.entry)) (λ part. length part.0.entries) (length tree.entries)) }
+{
+    let mut steps = Steps::<C>::start(blank);
+    open_part(alloc, how, tree, list, &mut steps)
+}
+
+/// A map that stays as it is, one of at most one block, whose entries are merged with the slice, or one whose top is a node,
+/// at whose key the slice is cut.
+fn open_part<'b, M: IntoShape, H: Resolve<M::Val>, C: Ledger>(
+    alloc: Global,
+    how: &H,
+    tree: Tree<M>,
+    list: &'b [(M::Key, M::Val)],
+    steps: &mut Steps<C>,
 ) -> Result<Opened<(Tree<M>, &'b [(M::Key, M::Val)]), (M::Key, M::Val), Tree<M>>, NoMemory>
     requires { IsIncreasing M.Key.cmp list.now }
     ensures { IfOk result (IsOpened (λ part. IsIncreasing M.Key.cmp part.1.now) (λ out. out.entries ≡ union_of_part M.Key.cmp (H.resolved how.now) (tree, list.entry)) (IsPutTogether M.Key.cmp (H.resolved how.now) (tree, list.entry)) (λ part. length part.0.entries) (length tree.entries)) }
@@ -88,7 +107,7 @@ fn open_part<'b, M: IntoShape, H: Resolve<M::Val>>(
     let _size = tree.size(); // for the proof alone: keys rise
     match take_apart(alloc, tree)? {
         Taken::Entries(entries) => {
-            let merged = merge_into(alloc, entries, list, how)?;
+            let merged = merge_into(alloc, entries, list, how, steps)?;
             Ok(Opened::Done(tree_of(alloc, merged)?))
         }
         Taken::Node {
@@ -97,7 +116,7 @@ fn open_part<'b, M: IntoShape, H: Resolve<M::Val>>(
             val,
             right,
         } => {
-            let parts = cut_slice(list, &key);
+            let parts = cut_slice(list, &key, steps);
             let val = resolved(alloc, val, parts.found, how)?;
             Ok(Opened::Split((left, parts.below), (key, val), (right, parts.above)))
         }

@@ -1,5 +1,5 @@
 -- Two trees cut at an entry of one of them.
-use Rattle.std.proofs.Common.{◌≡◌, ◌+◌, ◌<◌, List, ◌∷◌, ◌++◌, length, Option, Some, sym, ap, subst, ◌∙◌, arith}
+use Rattle.std.proofs.Common.{◌≡◌, ◌+◌, ◌<◌, ◌≤◌, List, ◌∷◌, ◌++◌, length, length-append, Option, None, Some, sym, ap, subst, ◌∙◌, arith}
 use Rattle.std.specs.List.{cons_option}
 use Rattle.std.specs.declared.cmp.Ordering.{Ordering}
 use Rattle.std.specs.Ordering.{is_lt, is_gt}
@@ -30,6 +30,19 @@ module _ {K V : Type 0} (order : K → K → Ordering) (combined : List (K × V)
 
   pub halves_combined : (left right out : Contents K V) (middle : Option (K × V)) → out.entries ≡ left.entries ++ cons_option middle right.entries → (part front back : Contents K V × Contents K V) → IsPutTogether order (combined_entries combined) part front middle back → IsAnswer (combined_entries combined) front left → IsAnswer (combined_entries combined) back right → IsAnswer (combined_entries combined) part out
   halves_combined left right out middle is part front back put front_is back_is = is ∙ rw (front_is, back_is) (sym put.whole)
+
+-- an entry or none before a list makes it no shorter
+length-cons_option : {E : Type 0} (o : Option E) (l : List E) → length l ≤ length (cons_option o l)
+length-cons_option None l = omega arith
+length-cons_option (Some e) l = omega arith
+
+-- the answers for two halves have at most the entries of both maps
+module _ {K V : Type 0} (order : K → K → Ordering) (combined : List (K × V) → List (K × V) → List (K × V)) (short : (a b : List (K × V)) → length (combined a b) ≤ length a + length b) where
+  pub halves_short : (left right : Contents K V) (part front : Contents K V × Contents K V) (middle : Option (K × V)) (back : Contents K V × Contents K V) → IsPutTogether order (combined_entries combined) part front middle back
+      → IsAnswer (combined_entries combined) front left → IsAnswer (combined_entries combined) back right → length left.entries + length right.entries ≤ length part.0.entries + length part.1.entries
+  halves_short left right part front middle back put front_is back_is =
+      let whole = ap length put.whole ∙ length-append (combined_entries combined front) (cons_option middle (combined_entries combined back)) in
+      omega (arith, whole, ap length front_is, ap length back_is, short part.0.entries part.1.entries, length-cons_option middle (combined_entries combined back))
 
 -- the parts are smaller than the whole
 module _ {K V : Type 0} (order : K → K → Ordering) where

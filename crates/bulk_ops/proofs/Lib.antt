@@ -1,3 +1,5 @@
+pub mod Bounds
 pub mod Combinations
+pub mod Levels
 pub mod NodeSides
 pub mod OneEntry

@@ -1,5 +1,5 @@
 -- Two maps that are combined key by key.
-use Rattle.std.specs.Prelude.{◌≡◌, ℕ, ◌+◌, Bool, Option, Some, None, List, [], ◌∷◌, ◌++◌, length, is_none, if◌then◌else◌}
+use Rattle.std.specs.Prelude.{◌≡◌, ℕ, ◌+◌, ◌≤◌, Bool, Option, Some, None, List, [], ◌∷◌, ◌++◌, length, is_none, if◌then◌else◌}
 use Rattle.std.specs.List.{cons_option}
 use Rattle.std.specs.Option.{option_map}
 use Rattle.std.specs.declared.cmp.Ordering.{Ordering}
@@ -15,6 +15,7 @@ entry_at k o = option_map (λ v. (k, v)) o
 
 -- `combined` splits at an entry of either map, with what `kept` makes of what the two maps have there; `first` and `second` say whether a map alone stays
 pub record IsCombination {K V : Type 0} (order : K → K → Ordering) (combined : List (K × V) → List (K × V) → List (K × V)) (kept : Option V → Option V → Option V) (first second : Bool) : Type 0 where
+  pub short : (a b : List (K × V)) → length (combined a b) ≤ length a + length b
   pub increases : (a b : List (K × V)) → IsIncreasing order a → IsIncreasing order b → IsIncreasing order (combined a b)
   pub first_alone : (a : List (K × V)) → IsIncreasing order a → combined a [] ≡ (if first then a else [])
   pub second_alone : (b : List (K × V)) → IsIncreasing order b → combined [] b ≡ (if second then b else [])

@@ -1,5 +1,5 @@
 -- Union, intersection and difference are combinations.
-use Rattle.std.proofs.Common.{◌≡◌, Bool, Option, true, false, cond, List, [], ◌∷◌, ◌++◌, Some, None, is_none, refl, ◌∙◌}
+use Rattle.std.proofs.Common.{◌≡◌, Bool, Option, true, false, cond, List, [], ◌∷◌, ◌++◌, Some, None, is_none, refl, ◌∙◌, arith}
 use Rattle.std.specs.List.{cons_option}
 use Rattle.std.specs.Option.{option_map, option_map_or}
 use Rattle.std.specs.declared.cmp.Ordering.{Ordering}
@@ -9,6 +9,7 @@ use Rattle.map_model.specs.Entries.{lookup, below, above}
 use Rattle.map_model.specs.SetOperations.{union, intersect, difference}
 use Rattle.map_model.proofs.Filters.{filter-all_keys}
 use Rattle.map_model.proofs.Keys.{AllKeys-all}
+use Rattle.map_model.proofs.Lengths.{length-filter_le, length-intersect_le, length-union_le}
 use Rattle.map_model.proofs.Unions.{united, IsIncreasing-union, nil-union, union-split_first, union-split_second}
 use Rattle.map_model.proofs.Intersections.{of_both, IsIncreasing-intersect, intersect-split_first, intersect-split_second}
 use Rattle.map_model.proofs.Differences.{IsIncreasing-difference, difference-split_first, difference-split_second}
@@ -22,6 +23,7 @@ intersect-nil order f (e ∷ a) = intersect-nil order f a
 module _ {K V : Type 0} {order : K → K → Ordering} (total : IsTotalOrder order) (exact : IsExact order) where
   pub union_laws : (f : V → V → V) → IsCombination order (union order f) (united f) true true
   union_laws f = record {
+    short = length-union_le order f;
     increases = λ a b s t. IsIncreasing-union total f a b s;
     first_alone = λ a s. refl;
     second_alone = λ b t. nil-union total exact f b t;
@@ -33,6 +35,7 @@ module _ {K V : Type 0} {order : K → K → Ordering} (total : IsTotalOrder ord
 
   pub intersection_laws : (f : V → V → V) → IsCombination order (intersect order f) (of_both f) false false
   intersection_laws f = record {
+    short = λ a b. let h = length-intersect_le order f a b in omega (arith, h);
     increases = λ a b s t. IsIncreasing-intersect order f a b s;
     first_alone = λ a s. intersect-nil order f a;
     second_alone = λ b t. refl;
@@ -46,6 +49,7 @@ module _ {K V : Type 0} {order : K → K → Ordering} (total : IsTotalOrder ord
 
   pub difference_laws : IsCombination {V = V} order (difference order) unless true false
   difference_laws = record {
+    short = λ a b. let h = length-filter_le (λ (e : K × V). is_none (lookup order b e.0)) a in omega (arith, h);
     increases = λ a b s t. IsIncreasing-difference order a b s;
     first_alone = λ a s. filter-all_keys (λ k. true) a (AllKeys-all (λ k. true ≡ true) (λ k. refl) a);
     second_alone = λ b t. refl;
@@ -59,6 +63,7 @@ module _ {K V : Type 0} {order : K → K → Ordering} (total : IsTotalOrder ord
 module _ {K V : Type 0} {order : K → K → Ordering} {combined : List (K × V) → List (K × V) → List (K × V)} {kept : Option V → Option V → Option V} {first second : Bool} (laws : IsCombination order combined kept first second) where
   pub exchanged_laws : IsCombination order (λ a b. combined b a) (λ o p. kept p o) second first
   exchanged_laws = record {
+    short = λ a b. let h = laws.short b a in omega (arith, h);
     increases = λ a b s t. laws.increases b a t s;
     first_alone = λ a s. laws.second_alone a s;
     second_alone = λ b t. laws.first_alone b t;

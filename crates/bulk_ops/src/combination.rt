@@ -1,11 +1,12 @@
 //! Two maps that are combined key by key.
-ghost use Rattle.std.specs.Prelude.{◌≡◌, Bool, List, Option, Some, None, IfOk};
+ghost use Rattle.std.specs.Prelude.{◌≡◌, ◌+◌, ◌≤◌, Bool, List, Option, Some, None, length, IfOk};
 ghost use Rattle.std.specs.Option.{option_map};
 ghost use Rattle.map_model.specs.Entries.{IsIncreasing};
 ghost use Rattle.bulk_ops.specs.Combination.{IsCombination};
 
-use aug_monoid::{Key, NoMemory, Share};
+use aug_monoid::{Key, NoMemory, Share, Steps};
 use std::alloc::Global;
+use std::sync::ledger::Ledger;
 
 /// What the combination of two maps has at each key, and how two slices are combined: `Uniting`, `Intersecting`, `Differing`.
 pub trait Combination<K: Key, V: Share>: Drop {
@@ -33,16 +34,19 @@ pub trait Combination<K: Key, V: Share>: Drop {
     fn keep(&self, alloc: Global, a: Option<&V>, b: Option<&V>) -> Result<Option<V>, NoMemory>
         ensures { IfOk result (λ val. val ≡ kept self.now (option_map (λ v. v.now) a.entry) (option_map (λ v. v.now) b.entry)) };
 
-    /// The combination of two slices whose keys rise. Linear in their lengths. `NoMemory` for want of memory alone.
-    fn combine_slices(
+    /// The combination of two slices whose keys rise. Each comparison is a step, at most one for each entry. `NoMemory` for want of
+    /// memory alone.
+    fn combine_slices<C: Ledger>(
         &self,
         alloc: Global,
         a: &[(K, V)],
         b: &[(K, V)],
+        steps: &mut Steps<C>,
     ) -> Result<Vec<(K, V)>, NoMemory>
         requires first { IsIncreasing K.cmp a.now }
         requires second { IsIncreasing K.cmp b.now }
-        ensures { IfOk result (λ v. v.items ≡ combined self.now a.now b.now) };
+        ensures value { IfOk result (λ v. v.items ≡ combined self.now a.now b.now) }
+        ensures cost { steps.new ≤ steps.old + (length a.now + length b.now) };
 
     ghost laws: { (how : Self) → IsCombination K.cmp (combined how) (kept how) (first_stays how) (second_stays how) };
 }

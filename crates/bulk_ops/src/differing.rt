@@ -5,9 +5,10 @@ ghost use Rattle.bulk_ops.specs.Combination.{unless};
 ghost use Rattle.bulk_ops.specs.Laws.{difference_laws};
 
 use crate::combination::Combination;
-use aug_monoid::{Key, NoMemory, Share};
+use aug_monoid::{Key, NoMemory, Share, Steps};
 use entry_lists::difference_of;
 use std::alloc::Global;
+use std::sync::ledger::Ledger;
 
 /// The difference: the combination of two maps that has the first map's entries whose keys the second hasn't.
 ///
@@ -42,12 +43,13 @@ impl<K: Key, V: Share> Combination<K, V> for Differing {
         }
     }
 
-    fn combine_slices(
+    fn combine_slices<C: Ledger>(
         &self,
         alloc: Global,
         a: &[(K, V)],
         b: &[(K, V)],
+        steps: &mut Steps<C>,
     ) -> Result<Vec<(K, V)>, NoMemory> {
-        difference_of::<K, V>(alloc, a, b)
+        difference_of::<K, V, C>(alloc, a, b, steps)
     }
 }

@@ -2,8 +2,9 @@
 ghost use Rattle.bulk_ops.specs.Laws.{exchanged_laws};
 
 use crate::combination::Combination;
-use aug_monoid::{Key, NoMemory, Share};
+use aug_monoid::{Key, NoMemory, Share, Steps};
 use std::alloc::Global;
+use std::sync::ledger::Ledger;
 
 /// What `how` makes of the second map and the first.
 #[derive(Drop)]
@@ -34,12 +35,13 @@ impl<'a, K: Key, V: Share, W: Combination<K, V>> Combination<K, V> for Exchanged
         self.how.keep(alloc, b, a)
     }
 
-    fn combine_slices(
+    fn combine_slices<C: Ledger>(
         &self,
         alloc: Global,
         a: &[(K, V)],
         b: &[(K, V)],
+        steps: &mut Steps<C>,
     ) -> Result<Vec<(K, V)>, NoMemory> {
-        self.how.combine_slices(alloc, b, a)
+        self.how.combine_slices(alloc, b, a, steps)
     }
 }

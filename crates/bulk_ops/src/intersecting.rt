@@ -5,9 +5,10 @@ ghost use Rattle.map_model.proofs.Intersections.{of_both};
 ghost use Rattle.bulk_ops.specs.Laws.{intersection_laws};
 
 use crate::combination::Combination;
-use aug_monoid::{Key, NoMemory, Resolve, Share};
+use aug_monoid::{Key, NoMemory, Resolve, Share, Steps};
 use entry_lists::intersect_of;
 use std::alloc::Global;
+use std::sync::ledger::Ledger;
 
 /// The intersection: the combination of two maps that has the entries whose keys both have, with what `how` makes of the first map's
 /// value and the second's.
@@ -46,12 +47,13 @@ impl<'a, K: Key, V: Share, H: Resolve<V>> Combination<K, V> for Intersecting<'a,
         }
     }
 
-    fn combine_slices(
+    fn combine_slices<C: Ledger>(
         &self,
         alloc: Global,
         a: &[(K, V)],
         b: &[(K, V)],
+        steps: &mut Steps<C>,
     ) -> Result<Vec<(K, V)>, NoMemory> {
-        intersect_of::<K, V, H>(alloc, a, b, self.how)
+        intersect_of::<K, V, H, C>(alloc, a, b, self.how, steps)
     }
 }

@@ -1,25 +1,30 @@
 //! A tree combined with one entry.
-ghost use Rattle.std.specs.Prelude.{◌≡◌, ◌∷◌, ◌++◌, [], IfOk};
+ghost use Rattle.std.specs.Prelude.{◌≡◌, ◌+◌, ◌*◌, ◌≤◌, ◌∷◌, ◌++◌, [], IfOk};
 ghost use Rattle.std.specs.List.{cons_option};
 ghost use Rattle.map_model.specs.Entries.{above, below};
 ghost use Rattle.bulk_ops.specs.Combination.{entry_at};
-ghost use Rattle.aug_monoid.specs.Fresh.{IsFresh};
 
 use crate::combination::Combination;
 use aug_monoid::{NoMemory, Share, Steps};
 use std::alloc::Global;
-use std::marker::Brand;
-use std::sync::ledger::{Blank, Ledger};
-use tree_entry::{del, get, put, single};
+use std::sync::ledger::Ledger;
+use tree_entry::{del, get, put};
 use tree_shape::{Shape, Tree};
 
 /// The tree of what is to stand at a key.
-fn alone<M: Shape>(alloc: Global, key: &M::Key, val: Option<M::Val>) -> Result<Tree<M>, NoMemory>
-    ensures { IfOk result (λ out. out.entries ≡ cons_option (entry_at key.now val) []) }
+fn alone<M: Shape, C: Ledger>(
+    alloc: Global,
+    key: &M::Key,
+    val: Option<M::Val>,
+    steps: &mut Steps<C>,
+) -> Result<Tree<M>, NoMemory>
+    ensures value { IfOk result (λ out. out.entries ≡ cons_option (entry_at key.now val) []) }
+    ensures cost { steps.new ≤ steps.old + (64 * (M.BLOCK + 2) + M.Leaf.FIND) }
 {
+    let none = Tree::empty();
     match val {
-        Some(val) => single(alloc, key.share(alloc)?, val),
-        None => Ok(Tree::empty()),
+        Some(val) => put(alloc, &none, key.share(alloc)?, val, steps),
+        None => Ok(none),
     }
 }
 
@@ -31,7 +36,8 @@ fn changed<M: Shape, C: Ledger>(
     val: Option<M::Val>,
     steps: &mut Steps<C>,
 ) -> Result<Tree<M>, NoMemory>
-    ensures { IfOk result (λ out. out.entries ≡ below M.Key.cmp tree.now.entries key.now ++ cons_option (entry_at key.now val) (above M.Key.cmp tree.now.entries key.now)) }
+    ensures value { IfOk result (λ out. out.entries ≡ below M.Key.cmp tree.now.entries key.now ++ cons_option (entry_at key.now val) (above M.Key.cmp tree.now.entries key.now)) }
+    ensures cost { steps.new ≤ steps.old + (64 * (tree.now.height + 1) * (M.BLOCK + 2) + M.Leaf.FIND) }
 {
     let _size = tree.size(); // for the proof alone: keys rise
     match val {
@@ -41,35 +47,23 @@ fn changed<M: Shape, C: Ledger>(
 }
 
 /// A tree combined with one entry: one path of the tree is copied, or only the entry is left.
-pub(crate) fn combine_one<M: Shape, W: Combination<M::Key, M::Val>>(
+pub(crate) fn combine_one<M: Shape, W: Combination<M::Key, M::Val>, C: Ledger>(
     alloc: Global,
     how: &W,
     tree: &Tree<M>,
     entry: &(M::Key, M::Val),
+    steps: &mut Steps<C>,
 ) -> Result<Tree<M>, NoMemory>
-    ensures { IfOk result (λ out. out.entries ≡ W.combined how.now tree.now.entries (entry.now ∷ [])) }
-{
-    one_counted::<M, W, Brand>(alloc, how, tree, entry, Blank::new(1))
-}
-
-fn one_counted<M: Shape, W: Combination<M::Key, M::Val>, C: Ledger>(
-    alloc: Global,
-    how: &W,
-    tree: &Tree<M>,
-    entry: &(M::Key, M::Val),
-    blank: Blank,
-) -> Result<Tree<M>, NoMemory>
-    requires { IsFresh C.name C.parts blank }
-    ensures { IfOk result (λ out. out.entries ≡ W.combined how.now tree.now.entries (entry.now ∷ [])) }
+    ensures value { IfOk result (λ out. out.entries ≡ W.combined how.now tree.now.entries (entry.now ∷ [])) }
+    ensures cost { steps.new ≤ steps.old + (tree.now.height + 64 * (tree.now.height + 1) * (M.BLOCK + 2) + 2 * M.Leaf.FIND) }
 {
     let _size = tree.size(); // for the proof alone: keys rise
     let (key, val) = entry;
-    let mut steps = Steps::<C>::start(blank);
-    let old = get(alloc, tree, key, &mut steps)?;
+    let old = get(alloc, tree, key, steps)?;
     let kept = how.keep(alloc, old.as_ref(), Some(val))?;
     if how.keeps_first() {
-        changed(alloc, tree, key, kept, &mut steps)
+        changed(alloc, tree, key, kept, steps)
     } else {
-        alone(alloc, key, kept)
+        alone(alloc, key, kept, steps)
     }
 }

@@ -5,9 +5,10 @@ ghost use Rattle.map_model.proofs.Unions.{united};
 ghost use Rattle.bulk_ops.specs.Laws.{union_laws};
 
 use crate::combination::Combination;
-use aug_monoid::{Key, NoMemory, Resolve, Share};
+use aug_monoid::{Key, NoMemory, Resolve, Share, Steps};
 use entry_lists::union_of;
 use std::alloc::Global;
+use std::sync::ledger::Ledger;
 
 /// The union: the combination of two maps that has the entries of either. At a key of both the value is what `how` makes of the first
 /// map's value and the second's.
@@ -48,12 +49,13 @@ impl<'a, K: Key, V: Share, H: Resolve<V>> Combination<K, V> for Uniting<'a, H> {
         }
     }
 
-    fn combine_slices(
+    fn combine_slices<C: Ledger>(
         &self,
         alloc: Global,
         a: &[(K, V)],
         b: &[(K, V)],
+        steps: &mut Steps<C>,
     ) -> Result<Vec<(K, V)>, NoMemory> {
-        union_of::<K, V, H>(alloc, a, b, self.how)
+        union_of::<K, V, H, C>(alloc, a, b, self.how, steps)
     }
 }

@@ -1,3 +1,4 @@
 pub mod Changed
+pub mod Halves
 pub mod MergeSteps
 pub mod Slices

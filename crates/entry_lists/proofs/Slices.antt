@@ -40,17 +40,19 @@ place_rank order q [] i h point = omega arith
 place_rank order q (x ∷ m) i h point =
     sym (ap length (filter-take (λ e. is_lt (order e.0 q)) x (x ∷ m) i h (λ j lt. point.0 j x (omega arith) lt) (λ j le lt. point.1 j x le lt)) ∙ length-take-le i (x ∷ m) h)
 
--- keys below q counted from the front: up to an entry that is not below it, or to the end
-module _ {K V : Type 0} {order : K → K → Ordering} (total : IsTotalOrder order) (q : K) (m : List (K × V)) (s : IsIncreasing order m) (i : ℕ) (below_all : (j : ℕ) (d : K × V) → j < i → is_lt (order (get_or m j d).0 q) ≡ true) where
-  not_below : (e : K × V) → e ≡ get_or m i e → is_lt (order e.0 q) ≡ false → (j : ℕ) (d : K × V) → i ≤ j → j < length m → (b : Bool) → is_lt (order (get_or m j d).0 q) ≡ b → b ≡ false
+-- from a key that is not below q on none is
+module _ {K V : Type 0} {order : K → K → Ordering} (total : IsTotalOrder order) (q : K) (m : List (K × V)) (s : IsIncreasing order m) (i : ℕ) where
+  pub not_below : (e : K × V) → e ≡ get_or m i e → is_lt (order e.0 q) ≡ false → (j : ℕ) (d : K × V) → i ≤ j → j < length m → (b : Bool) → is_lt (order (get_or m j d).0 q) ≡ b → b ≡ false
   not_below e is other j d le h false same = refl
   not_below e is other j d le h true same =
       let here : is_lt (order (get_or m i d).0 q) ≡ true = partitioned total q m s i j d le h same in
       let e_is : get_or m i d ≡ e = get_or_default m i d e (omega (arith, le, h)) ∙ sym is in
       absurd (false≢true (sym other ∙ ap (λ x. is_lt (order x.0 q)) (sym e_is) ∙ here))
 
+-- keys below q counted from the front: up to an entry that is not below it, or to the end
+module _ {K V : Type 0} {order : K → K → Ordering} (total : IsTotalOrder order) (q : K) (m : List (K × V)) (s : IsIncreasing order m) (i : ℕ) (below_all : (j : ℕ) (d : K × V) → j < i → is_lt (order (get_or m j d).0 q) ≡ true) where
   pub counted_to : (e : K × V) → i < length m → e ≡ get_or m i e → is_lt (order e.0 q) ≡ false → i ≡ rank order m q
-  counted_to e h is other = place_rank order q m i (omega (arith, h)) ((λ j d le lt. below_all j d lt), (λ j d le lt. not_below e is other j d le lt (is_lt (order (get_or m j d).0 q)) refl))
+  counted_to e h is other = place_rank order q m i (omega (arith, h)) ((λ j d le lt. below_all j d lt), (λ j d le lt. not_below total q m s i e is other j d le lt (is_lt (order (get_or m j d).0 q)) refl))
 
   pub counted_all : i ≡ length m → i ≡ rank order m q
   counted_all h = place_rank order q m i (omega (arith, h)) ((λ j d le lt. below_all j d lt), (λ j d le lt. absurd (omega (arith, h, le, lt))))

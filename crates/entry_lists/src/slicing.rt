@@ -1,11 +1,11 @@
 //! Increasing entries in a slice, cut at a key.
-ghost use Rattle.std.specs.Prelude.{◌≡◌};
+ghost use Rattle.std.specs.Prelude.{◌≡◌, ◌+◌, ◌<◌, ◌≤◌, ◌^◌, ℕ, length};
 ghost use Rattle.std.specs.Option.{option_map};
-ghost use Rattle.std.specs.Ordering.{is_lt};
 ghost use Rattle.map_model.specs.Entries.{IsIncreasing, above, below, lookup};
 ghost use Rattle.map_model.specs.Parts.{rank};
 
-use aug_monoid::Key;
+use aug_monoid::{Key, Steps};
+use std::sync::ledger::Ledger;
 
 /// The entries below a key, the value at it, and the entries above it.
 #[derive(Drop)]
@@ -15,26 +15,36 @@ pub struct SliceParts<'a, K, V> {
     pub above: &'a [(K, V)],
 }
 
-/// How many entries are below a key.
-fn place_in<K: Key, V>(entries: &[(K, V)], key: &K) -> usize
+/// How many entries are below a key, by a search in halves.
+fn place_in<K: Key, V, C: Ledger>(entries: &[(K, V)], key: &K, steps: &mut Steps<C>) -> usize
     requires { IsIncreasing K.cmp entries.now }
-    ensures { result ≡ rank K.cmp entries.now key.now }
+    ensures place { result ≡ rank K.cmp entries.now key.now }
+    ensures cost { (n : ℕ) → length entries.now < 2 ^ n → steps.new ≤ steps.old + n }
 {
-    entries.partition_point(
-        |entry: &(K, V)| -> bool
-            ensures { result ≡ is_lt (K.cmp entry.now.0 key.entry.now) }
-        { entry.0.cmp(key).is_lt() },
-    )
+    let mut place = 0;
+    let mut size = entries.len();
+    while size > 0 {
+        let half = size / 2;
+        let middle = place + half;
+        if entries[middle].0.order(key, steps).is_lt() {
+            place = middle + 1;
+            size -= half + 1;
+        } else {
+            size = half;
+        }
+    }
+    place
 }
 
 /// How many entries are below a key, counted from the front.
-fn count_below<K: Key, V>(entries: &[(K, V)], key: &K) -> usize
+fn count_below<K: Key, V, C: Ledger>(entries: &[(K, V)], key: &K, steps: &mut Steps<C>) -> usize
     requires { IsIncreasing K.cmp entries.now }
-    ensures { result ≡ rank K.cmp entries.now key.now }
+    ensures place { result ≡ rank K.cmp entries.now key.now }
+    ensures cost { steps.new ≤ steps.old + (result + 1) }
 {
     let mut count = 0;
     for entry in entries {
-        if !entry.0.cmp(key).is_lt() {
+        if !entry.0.order(key, steps).is_lt() {
             return count;
         }
         count += 1;
@@ -42,38 +52,56 @@ fn count_below<K: Key, V>(entries: &[(K, V)], key: &K) -> usize
     count
 }
 
-/// The slice cut at a key, by a search in halves. O(log n) for n entries.
-pub fn cut_slice<'a, K: Key, V>(entries: &'a [(K, V)], key: &K) -> SliceParts<'a, K, V>
+/// The slice cut at a key, by a search in halves. Each comparison is a step: for fewer than 2^n entries at most n + 1.
+pub fn cut_slice<'a, K: Key, V, C: Ledger>(
+    entries: &'a [(K, V)],
+    key: &K,
+    steps: &mut Steps<C>,
+) -> SliceParts<'a, K, V>
     requires { IsIncreasing K.cmp entries.now }
     ensures below { result.below.now ≡ below K.cmp entries.now key.now }
     ensures found { option_map (λ v. v.now) result.found ≡ lookup K.cmp entries.now key.now }
     ensures above { result.above.now ≡ above K.cmp entries.now key.now }
+    ensures cost { (n : ℕ) → length entries.now < 2 ^ n → steps.new ≤ steps.old + (n + 1) }
 {
-    cut_at(entries, key, place_in(entries, key))
+    let place = place_in(entries, key, steps);
+    cut_at(entries, key, place, steps)
 }
 
-/// The slice cut at a key, by a search from the front. O(k) for k entries below the key.
-pub fn cut_front<'a, K: Key, V>(entries: &'a [(K, V)], key: &K) -> SliceParts<'a, K, V>
+/// The slice cut at a key, by a search from the front. Each comparison is a step: for k entries below the key at most k + 2.
+pub fn cut_front<'a, K: Key, V, C: Ledger>(
+    entries: &'a [(K, V)],
+    key: &K,
+    steps: &mut Steps<C>,
+) -> SliceParts<'a, K, V>
     requires { IsIncreasing K.cmp entries.now }
     ensures below { result.below.now ≡ below K.cmp entries.now key.now }
     ensures found { option_map (λ v. v.now) result.found ≡ lookup K.cmp entries.now key.now }
     ensures above { result.above.now ≡ above K.cmp entries.now key.now }
+    ensures cost { steps.new ≤ steps.old + (length result.below.now + 2) }
 {
-    cut_at(entries, key, count_below(entries, key))
+    let place = count_below(entries, key, steps);
+    cut_at(entries, key, place, steps)
 }
 
 /// The slice cut at a key whose place is known.
-fn cut_at<'a, K: Key, V>(entries: &'a [(K, V)], key: &K, place: usize) -> SliceParts<'a, K, V>
+fn cut_at<'a, K: Key, V, C: Ledger>(
+    entries: &'a [(K, V)],
+    key: &K,
+    place: usize,
+    steps: &mut Steps<C>,
+) -> SliceParts<'a, K, V>
     requires increasing { IsIncreasing K.cmp entries.now }
     requires place { place ≡ rank K.cmp entries.now key.now }
     ensures below { result.below.now ≡ below K.cmp entries.now key.now }
     ensures found { option_map (λ v. v.now) result.found ≡ lookup K.cmp entries.now key.now }
     ensures above { result.above.now ≡ above K.cmp entries.now key.now }
+    ensures cost { steps.new ≤ steps.old + 1 }
 {
     let (below, rest) = entries.split_at(place);
     match rest.split_first() {
         Some(((other, val), above)) => {
-            if other.cmp(key).is_eq() {
+            if other.order(key, steps).is_eq() {
                 SliceParts {
                     below,
                     found: Some(val),

@@ -1,7 +1,10 @@
 //! A list as work that is divided.
 ghost use Rattle.std.specs.Prelude.{◌≡◌, ◌++◌, length, IfOk};
 ghost use Rattle.std.specs.List.{flat_map};
+ghost use Rattle.aug_monoid.specs.Fresh.{IsFresh};
+ghost use Rattle.map_model.specs.Entries.{IsIncreasing};
 ghost use Rattle.map_model.specs.Operations.{build};
+ghost use Rattle.map_model.specs.SetOperations.{union};
 
 use crate::gives::Gives;
 use aug_monoid::{Key, NoMemory, Second, Steps};
@@ -9,8 +12,8 @@ use entry_lists::union_of;
 use fork_join::{Cut, Divide, Gate, On, Opened, divide};
 use sorted_lists::put_in_order;
 use std::alloc::Global;
-use std::marker::{Send, Sync};
-use std::sync::ledger::Ledger;
+use std::marker::{Brand, Send, Sync};
+use std::sync::ledger::{Blank, Ledger};
 use std::thread::Threads;
 
 // The keys of a list's items, each part of at most `most` items at once.
@@ -59,8 +62,24 @@ impl<'a, T, K: Key, W: Gives<T, K>> Divide<&'a [T], (), Vec<(K, ())>> for Gather
         right: Vec<(K, ())>,
         _steps: &mut Steps<C>,
     ) -> Result<Vec<(K, ())>, NoMemory> {
-        union_of(alloc, &left, &right, &Second)
+        both_of::<K, Brand>(alloc, &left, &right, Blank::new(1))
     }
+}
+
+// The keys of either of two sets.
+fn both_of<K: Key, C: Ledger>(
+    alloc: Global,
+    left: &[(K, ())],
+    right: &[(K, ())],
+    blank: Blank,
+) -> Result<Vec<(K, ())>, NoMemory>
+    requires left { IsIncreasing K.cmp left.now }
+    requires right { IsIncreasing K.cmp right.now }
+    requires fresh { IsFresh C.name C.parts blank }
+    ensures { IfOk result (λ keys. keys.items ≡ union K.cmp (λ v w. w) left.now right.now) }
+{
+    let mut steps = Steps::<C>::start(blank);
+    union_of(alloc, left, right, &Second, &mut steps)
 }
 
 // The keys of a list's items as they come.

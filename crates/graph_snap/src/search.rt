@@ -1,6 +1,7 @@
 //! The search by fronts: each has the vertices at one distance.
 ghost use Rattle.std.specs.Prelude.{◌≡◌, ◌+◌, [], ◌∷◌, IfOk};
 ghost use Rattle.std.specs.Ordering.{nat_cmp};
+ghost use Rattle.aug_monoid.specs.Fresh.{IsFresh};
 ghost use Rattle.map_model.specs.Entries.{IsIncreasing};
 ghost use Rattle.map_model.specs.SetOperations.{difference};
 ghost use Rattle.graph_snap.specs.Edges.{AreSets, edges_of, set_at};
@@ -10,12 +11,13 @@ ghost use Rattle.graph_snap.specs.Walks.{as_reached, reach};
 use crate::edge::Reached;
 use crate::vertices::{Vertices, set_at};
 use aug_map::CodedMap;
-use aug_monoid::{First, NoMemory, Nothing};
+use aug_monoid::{First, NoMemory, Nothing, Steps};
 use entry_lists::difference_of;
 use fork_join::{Gate, On};
 use gathering::{Gives, set_of};
 use std::alloc::Global;
-use std::marker::Sync;
+use std::marker::{Brand, Sync};
+use std::sync::ledger::{Blank, Ledger};
 use std::thread::Threads;
 
 /// The neighbours of a front are compared with what was found as a map, and not as a list, where they are fewer than one for so many
@@ -88,7 +90,23 @@ pub(crate) fn not_in_list(
 {
     let _size = found.size(); // for the proof alone: what was found is in order
     let known = found.to_vec(alloc)?;
-    difference_of(alloc, near, &known)
+    not_known::<Brand>(alloc, near, &known, Blank::new(1))
+}
+
+// The vertices of a list in order that are not among some that are known.
+fn not_known<C: Ledger>(
+    alloc: Global,
+    near: &[(u64, u64)],
+    known: &[(u64, u64)],
+    blank: Blank,
+) -> Result<Vec<(u64, u64)>, NoMemory>
+    requires near { IsIncreasing nat_cmp near.now }
+    requires known { IsIncreasing nat_cmp known.now }
+    requires fresh { IsFresh C.name C.parts blank }
+    ensures { IfOk result (λ left. left.items ≡ difference nat_cmp near.now known.now) }
+{
+    let mut steps = Steps::<C>::start(blank);
+    difference_of(alloc, near, known, &mut steps)
 }
 
 // The vertices of a list in order that were not found before. The time goes by how long the list is.

@@ -3,9 +3,8 @@ use Rattle.std.proofs.Common.{◌≡◌, ℕ, zero, suc, ◌+◌, ◌*◌, ◌^�
 use Rattle.std.proofs.lemmas.Bool.{cases_lt}
 use Rattle.std.proofs.lemmas.Nat.{mul-le}
 use Rattle.std.proofs.Math.Nat.{one-le-pow, pow-le-pow_left}
-use Rattle.map_model.specs.Balance.{weight}
+use Rattle.map_model.specs.Balance.{IsAtMostLevels, IsWithinLevels, weight}
 use Rattle.map_model.proofs.Cuts.{weight-around}
-use Rattle.tree_join.specs.Levels.{IsWithinLevels}
 
 -- the levels of a part go to what it has from below, and to the join with a side of the node
 pub record AreLevels (block b part side : ℕ) : Type 0 where
@@ -46,10 +45,6 @@ levels_above block b whole part e side is few = let sum = weight-around whole pa
 
 pub levels_below : {E : Type 0} (block b : ℕ) (whole side : List E) (e : E) (part : List E) → whole ≡ side ++ e ∷ part → 3 ^ b * weight whole ≤ 4 ^ b * block → AreLevels block b (weight part) (weight side)
 levels_below block b whole side e part is few = let sum = weight-around whole side e part is in split_levels block b (weight part) (weight side) (omega (arith, rw sum at few))
-
--- a part of a map has no more levels
-pub levels_of_part : (block n part whole : ℕ) → part ≤ whole → 3 ^ n * whole ≤ 4 ^ n * block → 3 ^ n * part ≤ 4 ^ n * block
-levels_of_part block n part whole less few = let scaled = mul-le-mul_left (3 ^ n) less in omega (arith, scaled, few)
 
 -- a part is no heavier than three times the other side, and so goes down no level
 pub light_levels : (block n part side : ℕ) → part ≤ 3 * side → IsWithinLevels block n part side

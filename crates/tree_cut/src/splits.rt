@@ -1,7 +1,6 @@
 //! A map split at a key.
 ghost use Rattle.std.specs.Prelude.{◌≡◌, ℕ, ◌+◌, ◌*◌, ◌^◌, ◌≤◌, ◌∷◌, ◌++◌, IfOk, IsSome, None, Some, drop, length, take};
-ghost use Rattle.tree_join.specs.Levels.{IsWithinLevels};
-ghost use Rattle.map_model.specs.Balance.{weight};
+ghost use Rattle.map_model.specs.Balance.{IsWithinLevels, weight};
 ghost use Rattle.map_model.specs.Entries.{AllAbove, AllBelow, IsIncreasing, above, below, lookup};
 ghost use Rattle.tree_shape.specs.Shape.{link_cost};
 

@@ -1,6 +1,6 @@
 //! The first entry of a map, and a join without an entry between.
-ghost use Rattle.std.specs.Prelude.{◌≡◌, ◌+◌, ◌*◌, ◌<◌, ◌≤◌, ◌∷◌, ◌++◌, IfOk, length};
-ghost use Rattle.map_model.specs.Balance.{IsBalanced, weight};
+ghost use Rattle.std.specs.Prelude.{◌≡◌, ℕ, ◌+◌, ◌*◌, ◌<◌, ◌≤◌, ◌∷◌, ◌++◌, IfOk, length};
+ghost use Rattle.map_model.specs.Balance.{IsAtMostLevels, IsBalanced, weight};
 ghost use Rattle.map_model.specs.Entries.{IsBefore, IsIncreasing};
 ghost use Rattle.tree_shape.specs.Shape.{link_cost};
 
@@ -104,7 +104,9 @@ fn take_first<M: Shape, C: Ledger>(
     }
 }
 
-/// The map of all entries of a left map and a right map whose keys are greater. Its time is linear in the heights.
+/// The map of all entries of a left map and a right map whose keys are greater. Its time is linear in the heights: to take the
+/// first entry of the right map takes `64 * (height + 1) * (M::BLOCK + 2)` steps at most, and the join of maps of n levels together
+/// `(3 * n + 1) * (4 * M::BLOCK + 4)`.
 pub fn join2<M: Shape, C: Ledger>(
     alloc: Global,
     left: &Tree<M>,
@@ -114,6 +116,7 @@ pub fn join2<M: Shape, C: Ledger>(
     requires before { IsBefore M.Key.cmp left.now.entries right.now.entries }
     ensures entries { IfOk result (λ tree. tree.entries ≡ left.now.entries ++ right.now.entries) }
     ensures cost { IsBalanced (weight left.now.entries) (weight right.now.entries) → steps.new ≤ steps.old + (64 * (right.now.height + 1) * (M.BLOCK + 2) + 7 * link_cost M.BLOCK) }
+    ensures levels { (n : ℕ) → IsAtMostLevels M.BLOCK n (weight left.now.entries + weight right.now.entries) → steps.new ≤ steps.old + (64 * (right.now.height + 1) * (M.BLOCK + 2) + (3 * n + 1) * link_cost M.BLOCK) }
 {
     if right.size() == 0 {
         return another_owner(alloc, left);

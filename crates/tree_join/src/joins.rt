@@ -1,8 +1,7 @@
 //! Join: two trees and an entry between them.
 ghost use Rattle.std.specs.Prelude.{◌≡◌, ℕ, ◌+◌, ◌*◌, ◌<◌, ◌≤◌, ◌∷◌, ◌++◌, IfOk};
-ghost use Rattle.tree_join.specs.Levels.{IsWithinLevels};
 ghost use Rattle.tree_join.specs.Sides.{beside};
-ghost use Rattle.map_model.specs.Balance.{weight};
+ghost use Rattle.map_model.specs.Balance.{IsWithinLevels, weight};
 ghost use Rattle.map_model.specs.Entries.{AllAbove, AllBelow, IsIncreasing};
 ghost use Rattle.tree_shape.specs.Shape.{link_cost};
 
@@ -111,6 +110,7 @@ pub fn join_owned<M: Shape, C: Ledger>(
     requires above { AllAbove M.Key.cmp right.entries key }
     ensures entries { IfOk result (λ tree. tree.entries ≡ left.entries ++ (key, val) ∷ right.entries) }
     ensures cost { weight left.entries ≤ 3 * weight right.entries + 3 → weight right.entries ≤ 3 * weight left.entries + 3 → steps.new ≤ steps.old + 7 * link_cost M.BLOCK }
+    ensures levels { (n : ℕ) → IsWithinLevels M.BLOCK n (weight left.entries) (weight right.entries) → IsWithinLevels M.BLOCK n (weight right.entries) (weight left.entries) → steps.new ≤ steps.old + (3 * n + 1) * link_cost M.BLOCK }
 {
     let _sizes = (left.size(), right.size()); // for the proof alone: keys rise, and sizes fit
     if are_balanced(&left, &right) {

@@ -1,4 +1,4 @@
-use Rattle.std.proofs.Common.{◌≡◌, [], ◌∷◌, ◌++◌, sym, ◌∙◌}
+use Rattle.std.proofs.Common.{◌≡◌, [], ◌∷◌, ◌++◌, sym, ◌∙◌, ap, length, arith}
 use Rattle.std.specs.declared.cmp.Ordering.TheVariants.{Less, Equal, Greater}
 use Rattle.map_model.specs.SetOperations.{difference}
 use Rattle.std.proofs.lemmas.List.{nil_from_length}
@@ -12,9 +12,11 @@ loop-near-preserved-in-Less g c =
     let far = c.in-Some-split_first.far.now in
     let left_is : c.loop-near.left.now ≡ near ∷ c.in-Some.others.now = c.in-Some.ensures.cases.0 in
     let right_is : c.loop-near.right.now ≡ far ∷ c.in-Some-split_first.rest.now = c.in-Some-split_first.ensures.cases.0 in
-    let compared : g.K.Ord.cmp near.0 far.0 ≡ Less = sym c.in-Less.ensures in
-    let pushed : c.push_shared.new.into.items ≡ c.loop-near.out.items ++ near ∷ [] = c.in_ok-push_shared-in-Less.ensures.appended in
-    difference_less g.met.K.Ord.total g.met.K.Key.exact near far c.in-Some.others.now c.in-Some-split_first.rest.now c.loop-near.left.now c.loop-near.right.now c.loop-near.out.items c.push_shared.new.into.items (difference g.K.Ord.cmp c.args.a.now c.args.b.now) left_is right_is c.loop-near.invariant compared pushed
+    let compared : g.K.Ord.cmp near.0 far.0 ≡ Less = sym c.in-Less.ensures.value in
+    let pushed : c.push_shared.new.into.items ≡ c.loop-near.out.items ++ near ∷ [] = c.in_ok-push_shared-in-Less.ensures.appended in (
+      difference_less g.met.K.Ord.total g.met.K.Key.exact near far c.in-Some.others.now c.in-Some-split_first.rest.now c.loop-near.left.now c.loop-near.right.now c.loop-near.out.items c.push_shared.new.into.items (difference g.K.Ord.cmp c.args.a.now c.args.b.now) left_is right_is c.loop-near.invariant.0 compared pushed,
+      omega (arith, c.order.ensures.one_step, c.loop-near.invariant.1, ap length left_is, ap length right_is),
+    )
 
 pub loop-near-preserved-in-Equal : goal.loop-near-preserved-in-Equal
 loop-near-preserved-in-Equal g c =
@@ -22,8 +24,10 @@ loop-near-preserved-in-Equal g c =
     let far = c.in-Some-split_first.far.now in
     let left_is : c.loop-near.left.now ≡ near ∷ c.in-Some.others.now = c.in-Some.ensures.cases.0 in
     let right_is : c.loop-near.right.now ≡ far ∷ c.in-Some-split_first.rest.now = c.in-Some-split_first.ensures.cases.0 in
-    let compared : g.K.Ord.cmp near.0 far.0 ≡ Equal = sym c.in-Equal.ensures in
-    difference_equal g.met.K.Ord.total g.met.K.Key.exact near far c.in-Some.others.now c.in-Some-split_first.rest.now c.loop-near.left.now c.loop-near.right.now c.loop-near.out.items c.loop-near.out.items (difference g.K.Ord.cmp c.args.a.now c.args.b.now) left_is right_is c.loop-near.invariant compared
+    let compared : g.K.Ord.cmp near.0 far.0 ≡ Equal = sym c.in-Equal.ensures.value in (
+      difference_equal g.met.K.Ord.total g.met.K.Key.exact near far c.in-Some.others.now c.in-Some-split_first.rest.now c.loop-near.left.now c.loop-near.right.now c.loop-near.out.items c.loop-near.out.items (difference g.K.Ord.cmp c.args.a.now c.args.b.now) left_is right_is c.loop-near.invariant.0 compared,
+      omega (arith, c.order.ensures.one_step, c.loop-near.invariant.1, ap length left_is, ap length right_is),
+    )
 
 pub loop-near-preserved : goal.loop-near-preserved
 loop-near-preserved g c =
@@ -31,11 +35,13 @@ loop-near-preserved g c =
     let far = c.in-Some-split_first.far.now in
     let left_is : c.loop-near.left.now ≡ near ∷ c.in-Some.others.now = c.in-Some.ensures.cases.0 in
     let right_is : c.loop-near.right.now ≡ far ∷ c.in-Some-split_first.rest.now = c.in-Some-split_first.ensures.cases.0 in
-    let compared : g.K.Ord.cmp near.0 far.0 ≡ Greater = sym c.in-Greater.ensures in
-    difference_greater g.met.K.Ord.total g.met.K.Key.exact near far c.in-Some.others.now c.in-Some-split_first.rest.now c.loop-near.left.now c.loop-near.right.now c.loop-near.out.items c.loop-near.out.items (difference g.K.Ord.cmp c.args.a.now c.args.b.now) left_is right_is c.loop-near.invariant compared
+    let compared : g.K.Ord.cmp near.0 far.0 ≡ Greater = sym c.in-Greater.ensures.value in (
+      difference_greater g.met.K.Ord.total g.met.K.Key.exact near far c.in-Some.others.now c.in-Some-split_first.rest.now c.loop-near.left.now c.loop-near.right.now c.loop-near.out.items c.loop-near.out.items (difference g.K.Ord.cmp c.args.a.now c.args.b.now) left_is right_is c.loop-near.invariant.0 compared,
+      omega (arith, c.order.ensures.one_step, c.loop-near.invariant.1, ap length left_is, ap length right_is),
+    )
 
-pub returns : goal.returns
-returns g c =
+pub returns-clause-value : goal.returns-clause-value
+returns-clause-value g c =
     let left = c.loop-near.left.now in
     let right = c.loop-near.right.now in
     let out = c.loop-near.out.items in
@@ -44,8 +50,11 @@ returns g c =
     rest ∙ elim c.match-split_first.branch [
       | in-Some+in_default-split_first w ↦
           let ended : right ≡ [] = nil_from_length right w.in_default-split_first.ensures.cases in
-          difference_left g.met.K.Ord.total g.met.K.Key.exact out whole left right ended c.loop-near.invariant.0
+          difference_left g.met.K.Ord.total g.met.K.Key.exact out whole left right ended c.loop-near.invariant.0.0
       | in_default w ↦
           let ended : left ≡ [] = nil_from_length left w.in_default.ensures.cases in
-          difference_done g.met.K.Ord.total g.met.K.Key.exact out whole left right ended c.loop-near.invariant.0
+          difference_done g.met.K.Ord.total g.met.K.Key.exact out whole left right ended c.loop-near.invariant.0.0
     ]
+
+pub returns-clause-cost : goal.returns-clause-cost
+returns-clause-cost g c = omega (arith, c.loop-near.invariant.1)

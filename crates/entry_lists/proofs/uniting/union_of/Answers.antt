@@ -1,4 +1,4 @@
-use Rattle.std.proofs.Common.{◌≡◌, [], ◌∷◌, ◌++◌, ap, sym, ◌∙◌}
+use Rattle.std.proofs.Common.{◌≡◌, [], ◌∷◌, ◌++◌, ap, sym, ◌∙◌, length, arith}
 use Rattle.std.specs.declared.cmp.Ordering.TheVariants.{Less, Equal, Greater}
 use Rattle.map_model.specs.SetOperations.{union}
 use Rattle.std.proofs.lemmas.List.{nil_from_length}
@@ -12,9 +12,11 @@ loop-near-preserved-in-Less g c =
     let far = c.in-Some-split_first.far.now in
     let left_is : c.loop-near.left.now ≡ near ∷ c.in-Some.others.now = c.in-Some.ensures.cases.0 in
     let right_is : c.loop-near.right.now ≡ far ∷ c.in-Some-split_first.rest.now = c.in-Some-split_first.ensures.cases.0 in
-    let compared : g.K.Ord.cmp near.0 far.0 ≡ Less = sym c.in-Less.ensures in
-    let pushed : c.push_shared.new.into.items ≡ c.loop-near.out.items ++ near ∷ [] = c.in_ok-push_shared-in-Less.ensures.appended in
-    union_less g.met.K.Ord.total g.met.K.Key.exact near far c.in-Some.others.now c.in-Some-split_first.rest.now c.loop-near.left.now c.loop-near.right.now c.loop-near.out.items c.push_shared.new.into.items (union g.K.Ord.cmp (g.R.Resolve.resolved c.args.how.now) c.args.a.now c.args.b.now) left_is right_is (g.R.Resolve.resolved c.args.how.now) c.loop-near.invariant compared pushed
+    let compared : g.K.Ord.cmp near.0 far.0 ≡ Less = sym c.in-Less.ensures.value in
+    let pushed : c.push_shared.new.into.items ≡ c.loop-near.out.items ++ near ∷ [] = c.in_ok-push_shared-in-Less.ensures.appended in (
+      union_less g.met.K.Ord.total g.met.K.Key.exact near far c.in-Some.others.now c.in-Some-split_first.rest.now c.loop-near.left.now c.loop-near.right.now c.loop-near.out.items c.push_shared.new.into.items (union g.K.Ord.cmp (g.R.Resolve.resolved c.args.how.now) c.args.a.now c.args.b.now) left_is right_is (g.R.Resolve.resolved c.args.how.now) c.loop-near.invariant.0 compared pushed,
+      omega (arith, c.order.ensures.one_step, c.loop-near.invariant.1, ap length left_is, ap length right_is),
+    )
 
 pub loop-near-preserved-in-Equal : goal.loop-near-preserved-in-Equal
 loop-near-preserved-in-Equal g c =
@@ -22,9 +24,11 @@ loop-near-preserved-in-Equal g c =
     let far = c.in-Some-split_first.far.now in
     let left_is : c.loop-near.left.now ≡ near ∷ c.in-Some.others.now = c.in-Some.ensures.cases.0 in
     let right_is : c.loop-near.right.now ≡ far ∷ c.in-Some-split_first.rest.now = c.in-Some-split_first.ensures.cases.0 in
-    let compared : g.K.Ord.cmp near.0 far.0 ≡ Equal = sym c.in-Equal.ensures in
-    let pushed : c.push_resolved.new.into.items ≡ c.loop-near.out.items ++ (near.0, g.R.Resolve.resolved c.args.how.now near.1 far.1) ∷ [] = c.in_ok-push_resolved-in-Equal.ensures in
-    union_equal g.met.K.Ord.total g.met.K.Key.exact near far c.in-Some.others.now c.in-Some-split_first.rest.now c.loop-near.left.now c.loop-near.right.now c.loop-near.out.items c.push_resolved.new.into.items (union g.K.Ord.cmp (g.R.Resolve.resolved c.args.how.now) c.args.a.now c.args.b.now) left_is right_is (g.R.Resolve.resolved c.args.how.now) c.loop-near.invariant compared pushed
+    let compared : g.K.Ord.cmp near.0 far.0 ≡ Equal = sym c.in-Equal.ensures.value in
+    let pushed : c.push_resolved.new.into.items ≡ c.loop-near.out.items ++ (near.0, g.R.Resolve.resolved c.args.how.now near.1 far.1) ∷ [] = c.in_ok-push_resolved-in-Equal.ensures in (
+      union_equal g.met.K.Ord.total g.met.K.Key.exact near far c.in-Some.others.now c.in-Some-split_first.rest.now c.loop-near.left.now c.loop-near.right.now c.loop-near.out.items c.push_resolved.new.into.items (union g.K.Ord.cmp (g.R.Resolve.resolved c.args.how.now) c.args.a.now c.args.b.now) left_is right_is (g.R.Resolve.resolved c.args.how.now) c.loop-near.invariant.0 compared pushed,
+      omega (arith, c.order.ensures.one_step, c.loop-near.invariant.1, ap length left_is, ap length right_is),
+    )
 
 pub loop-near-preserved : goal.loop-near-preserved
 loop-near-preserved g c =
@@ -32,12 +36,14 @@ loop-near-preserved g c =
     let far = c.in-Some-split_first.far.now in
     let left_is : c.loop-near.left.now ≡ near ∷ c.in-Some.others.now = c.in-Some.ensures.cases.0 in
     let right_is : c.loop-near.right.now ≡ far ∷ c.in-Some-split_first.rest.now = c.in-Some-split_first.ensures.cases.0 in
-    let compared : g.K.Ord.cmp near.0 far.0 ≡ Greater = sym c.in-Greater.ensures in
-    let pushed : c.push_shared-in-Greater.new.into.items ≡ c.loop-near.out.items ++ far ∷ [] = c.in_ok-push_shared-in-Greater.ensures.appended in
-    union_greater g.met.K.Ord.total g.met.K.Key.exact near far c.in-Some.others.now c.in-Some-split_first.rest.now c.loop-near.left.now c.loop-near.right.now c.loop-near.out.items c.push_shared-in-Greater.new.into.items (union g.K.Ord.cmp (g.R.Resolve.resolved c.args.how.now) c.args.a.now c.args.b.now) left_is right_is (g.R.Resolve.resolved c.args.how.now) c.loop-near.invariant compared pushed
+    let compared : g.K.Ord.cmp near.0 far.0 ≡ Greater = sym c.in-Greater.ensures.value in
+    let pushed : c.push_shared-in-Greater.new.into.items ≡ c.loop-near.out.items ++ far ∷ [] = c.in_ok-push_shared-in-Greater.ensures.appended in (
+      union_greater g.met.K.Ord.total g.met.K.Key.exact near far c.in-Some.others.now c.in-Some-split_first.rest.now c.loop-near.left.now c.loop-near.right.now c.loop-near.out.items c.push_shared-in-Greater.new.into.items (union g.K.Ord.cmp (g.R.Resolve.resolved c.args.how.now) c.args.a.now c.args.b.now) left_is right_is (g.R.Resolve.resolved c.args.how.now) c.loop-near.invariant.0 compared pushed,
+      omega (arith, c.order.ensures.one_step, c.loop-near.invariant.1, ap length left_is, ap length right_is),
+    )
 
-pub returns : goal.returns
-returns g c =
+pub returns-clause-value : goal.returns-clause-value
+returns-clause-value g c =
     let how = g.R.Resolve.resolved c.args.how.now in
     let left = c.loop-near.left.now in
     let right = c.loop-near.right.now in
@@ -48,8 +54,11 @@ returns g c =
     second ∙ ap (λ x. x ++ right) first ∙ elim c.match-split_first.branch [
       | in-Some+in_default-split_first w ↦
           let ended : right ≡ [] = nil_from_length right w.in_default-split_first.ensures.cases in
-          union_left g.met.K.Ord.total g.met.K.Key.exact out whole how left right ended c.loop-near.invariant.0
+          union_left g.met.K.Ord.total g.met.K.Key.exact out whole how left right ended c.loop-near.invariant.0.0
       | in_default w ↦
           let ended : left ≡ [] = nil_from_length left w.in_default.ensures.cases in
-          union_right g.met.K.Ord.total g.met.K.Key.exact out whole how left right ended c.loop-near.invariant.2 c.loop-near.invariant.0
+          union_right g.met.K.Ord.total g.met.K.Key.exact out whole how left right ended c.loop-near.invariant.0.2 c.loop-near.invariant.0.0
     ]
+
+pub returns-clause-cost : goal.returns-clause-cost
+returns-clause-cost g c = omega (arith, c.loop-near.invariant.1)

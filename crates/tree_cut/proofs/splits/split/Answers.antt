@@ -2,7 +2,7 @@ use Rattle.std.proofs.Common.{◌≤◌, length, arith}
 use Rattle.map_model.specs.Balance.{weight}
 use Rattle.map_model.specs.Entries.{above, below}
 use Rattle.map_model.proofs.Lengths.{length-filter_le}
-use Rattle.tree_cut.proofs.Levels.{levels_of_part}
+use Rattle.map_model.proofs.Heights.{levels_of_part}
 use Rattle.tree_cut.proofs.splits.split.Goals as goal
 
 pub returns-clause-cost : goal.returns-clause-cost

@@ -3,6 +3,8 @@ use Rattle.std.specs.declared.cmp.Ordering.TheVariants.{Less}
 use Rattle.map_model.specs.Balance.{weight}
 use Rattle.map_model.specs.Entries.{AllAbove}
 use Rattle.map_model.proofs.Keys.{AllKeys-map}
+use Rattle.tree_shape.specs.Shape.{link_cost}
+use Rattle.tree_join.proofs.Levels.{joined_levels}
 use Rattle.tree_join.proofs.ends.join2.Goals as goal
 
 pub join-requires-clause-below : goal.join-requires-clause-below
@@ -22,3 +24,8 @@ returns-clause-cost g c = λ balanced.
     let lower : weight c.args.left.now.entries ≤ 3 * weight c.in_ok-first.first.rest.entries + 3 = omega (arith, size, balanced.0) in
     let upper : weight c.in_ok-first.first.rest.entries ≤ 3 * weight c.args.left.now.entries + 3 = omega (arith, size, balanced.1) in
     omega (arith, c.join.ensures.cost lower upper, c.in_ok-first.ensures.cost)
+
+pub returns-clause-levels : goal.returns-clause-levels
+returns-clause-levels g c = λ n few.
+    let size = ap length c.in_ok-first.ensures.entries in
+    joined_levels g.M.Shape.BLOCK n (weight c.args.left.now.entries) (weight c.in_ok-first.first.rest.entries) (weight c.args.right.now.entries) c.args.steps.now c.take_first.new.steps c.join.new.steps (link_cost g.M.Shape.BLOCK) (64 * (c.args.right.now.height + 1) * (g.M.Shape.BLOCK + 2)) (omega (arith, size)) (c.join.ensures.levels n) c.in_ok-first.ensures.cost few

@@ -6,21 +6,21 @@ use Rattle.map_model.proofs.Operations.{IsIncreasing-build}
 use Rattle.gathering.proofs.Sets.{halves_united}
 use Rattle.gathering.proofs.gathering.GatheringDivideRefSliceUnitVecTuple2Unit.close.Goals as goal
 
-pub union_of-requires-clause-first : goal.union_of-requires-clause-first
-union_of-requires-clause-first g c =
+pub both_of-requires-clause-left : goal.both_of-requires-clause-left
+both_of-requires-clause-left g c =
     let given = g.W.Gives.given c.args.self.now.how.now in
     subst (IsIncreasing g.K.Ord.cmp) (sym (c.deref.ensures.value ∙ c.requires.front_answer)) (IsIncreasing-build g.met.K.Ord.total (flat_map given c.requires.front.now))
 
-pub union_of-requires-clause-second : goal.union_of-requires-clause-second
-union_of-requires-clause-second g c =
+pub both_of-requires-clause-right : goal.both_of-requires-clause-right
+both_of-requires-clause-right g c =
     let given = g.W.Gives.given c.args.self.now.how.now in
     subst (IsIncreasing g.K.Ord.cmp) (sym (c.deref-2.ensures.value ∙ c.requires.back_answer)) (IsIncreasing-build g.met.K.Ord.total (flat_map given c.requires.back.now))
 
 pub returns-clause-answer : goal.returns-clause-answer
 returns-clause-answer g c =
     let given = g.W.Gives.given c.args.self.now.how.now in
-    IfOk-weaker c.union_of.result _ _ (λ out is part front back divided near far.
-    halves_united g.met.K.Ord.total g.met.K.Key.exact given part.now front.now back.now c.deref.result.now c.deref-2.result.now out.items divided (c.deref.ensures.value ∙ near) (c.deref-2.ensures.value ∙ far) is) c.union_of.ensures
+    IfOk-weaker c.both_of.result _ _ (λ out is part front back divided near far.
+    halves_united g.met.K.Ord.total g.met.K.Key.exact given part.now front.now back.now c.deref.result.now c.deref-2.result.now out.items divided (c.deref.ensures.value ∙ near) (c.deref-2.ensures.value ∙ far) is) c.both_of.ensures
 
 pub returns-clause-cost : goal.returns-clause-cost
-returns-clause-cost g c = IfOk-weaker c.union_of.result _ _ (λ out is part front back divided near far. omega arith) c.union_of.ensures
+returns-clause-cost g c = IfOk-weaker c.both_of.result _ _ (λ out is part front back divided near far. omega arith) c.both_of.ensures
