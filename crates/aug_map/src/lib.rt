@@ -11,7 +11,7 @@
 //! Operations on whole maps fork where the cut allows it: each is a work of `bulk_passes`, `bulk_ops` or `bulk_changes`, handed to
 //! `divide`. Its twin, whose name ends in `_alone`, hands it to `divide_alone`, and asks nothing about threads. `sorted_lists` sorts
 //! pairs for it; the calls on single keys, on parts and on ranges stand on `tree_entry`, `tree_change`, `tree_cut`, `tree_join`,
-//! `tree_query`, `tree_many` and `tree_walk`, all over the trees of `tree_shape`.
+//! `tree_query`, `tree_filter`, `tree_many` and `tree_walk`, all over the trees of `tree_shape`.
 //!
 //! A call whose name ends in `_counted` is the one without that ending with a counter, and says how many steps it takes at most.
 //!

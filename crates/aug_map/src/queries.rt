@@ -67,7 +67,7 @@ impl<M: Shape> Map<M> {
     ) -> Result<Map<M>, NoMemory>
         ensures { IfOk result (λ map. map.entries ≡ aug_filter M.Augment.base_of (T.admits test.now) self.now.entries) }
     {
-        Map::from_tree(tree_query::aug_filter(alloc, &self.tree, test))
+        Map::from_tree(tree_filter::aug_filter(alloc, &self.tree, test))
     }
 
     /// `aug_filter` with its tests counted: each is a step, at most `1 + k * (3 * height + 2 * B)` where k entries pass.
@@ -80,7 +80,7 @@ impl<M: Shape> Map<M> {
         ensures entries { IfOk result (λ map. map.entries ≡ aug_filter M.Augment.base_of (T.admits test.now) self.now.entries) }
         ensures cost { tests.new ≤ tests.old + (1 + length (aug_filter M.Augment.base_of (T.admits test.now) self.now.entries) * (3 * self.now.height + 2 * M.BLOCK)) }
     {
-        Map::from_tree(tree_query::aug_filter_counted(alloc, &self.tree, test, tests))
+        Map::from_tree(tree_filter::aug_filter_counted(alloc, &self.tree, test, tests))
     }
 
     /// The first entry whose base value passes; none exactly where no entry's does. It passes over each part whose fold fails the
@@ -94,7 +94,7 @@ impl<M: Shape> Map<M> {
         ensures value { IfOk result (λ found. found ≡ select (aug_filter M.Augment.base_of (T.admits test.now) self.now.entries) 0) }
         ensures succeeds { M.Augment.never_refuses → M.Key.never_refuses → M.Val.never_refuses → IsOk result }
     {
-        tree_query::first_where(alloc, &self.tree, test)
+        tree_filter::first_where(alloc, &self.tree, test)
     }
 
     /// `first_where` with its tests counted: each is a step, at most `3 * height + 2 * B + 1`.
@@ -108,7 +108,7 @@ impl<M: Shape> Map<M> {
         ensures succeeds { M.Augment.never_refuses → M.Key.never_refuses → M.Val.never_refuses → IsOk result }
         ensures cost { tests.new ≤ tests.old + (3 * self.now.height + 2 * M.BLOCK + 1) }
     {
-        tree_query::first_where_counted(alloc, &self.tree, test, tests)
+        tree_filter::first_where_counted(alloc, &self.tree, test, tests)
     }
 
     /// The image of the fold of the entries with keys from `lo` to `hi`, both included. It is combined from images of stored folds and

@@ -1,7 +1,5 @@
 pub mod Blocks
 pub mod Costs
-pub mod Firsts
-mod FoldTests
 pub mod Nodes
 pub mod Ranges
 pub mod Sides

@@ -5,22 +5,16 @@
 //!
 //! It stands on `tree_join` and `tree_shape`.
 //!
-//! Tests: none yet; those of `map_tests` and `work_tests` move here. Wrong bodies: none here; `aug_map` will state these clauses
-//! again.
+//! Tests: `map_tests`, `work_tests`. Wrong bodies: none here; `aug_map` states these clauses again.
 #![tactic(auto)]
 
-mod filter;
-mod finding;
 mod folds;
 mod neighbours;
 mod parts;
-mod passing;
 mod places;
 mod project;
 mod range;
 
-pub use filter::{aug_filter, aug_filter_counted};
-pub use finding::{first_where, first_where_counted};
 pub use folds::{aug_left, aug_range, aug_right};
 pub use neighbours::{next, prev};
 pub use parts::{above, at_least, below, slice};

@@ -1,0 +1,3 @@
+pub mod Firsts
+mod FoldTests
+pub mod Walks

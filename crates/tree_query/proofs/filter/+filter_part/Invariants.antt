@@ -1,5 +1,0 @@
-use Rattle.std.proofs.Common.{length}
-use Rattle.tree_query.proofs.filter.+filter_part.Given as goal
-
-abbrev pub decreases-filter_part : goal.decreases-filter_part
-decreases-filter_part g l = length l.part.tree.now.entries

@@ -1,4 +1,0 @@
-use Rattle.tree_query.proofs.filter.aug_filter.Given as goal
-
-abbrev pub ghosts-filter_with_counter : goal.ghosts-filter_with_counter
-ghosts-filter_with_counter g a = record { name = a.blank.name; parts = a.blank.parts }

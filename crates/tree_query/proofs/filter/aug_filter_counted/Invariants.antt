@@ -1,4 +1,0 @@
-use Rattle.tree_query.proofs.filter.aug_filter_counted.Given as goal
-
-abbrev pub ghosts-filter_joining : goal.ghosts-filter_joining
-ghosts-filter_joining g a = record { name = a.blank.name; parts = a.blank.parts }
