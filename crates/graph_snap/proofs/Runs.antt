@@ -21,7 +21,7 @@ use Rattle.map_model.proofs.Keys.{AllKeys-append, AllKeys-map, IsBefore-from_app
 use Rattle.map_model.proofs.Lookups.{lookup-append}
 use Rattle.map_model.proofs.NatKeys.{nat_exact}
 use Rattle.map_model.proofs.Operations.{build-increasing}
-use Rattle.graph_snap.specs.Batches.{as_key, as_pairs, as_turned_key, ends, run}
+use Rattle.graph_snap.specs.Batches.{as_key, as_pairs, ends, run}
 use Rattle.graph_snap.specs.Edges.{AreSets, IsFilled, IsGraph, Sets, edge_order, edges_of, elements, pairs_of, reversed, turned, with_edges}
 use Rattle.graph_snap.specs.declared.edge.Edge.{Edge}
 use Rattle.graph_snap.proofs.Sets.{fan}
@@ -63,7 +63,7 @@ keys-renamed (e ∷ m) = ap (λ x. (e.0.first, e.0.second) ∷ x) (keys-renamed 
 
 -- the keys of edges, one behind the other
 abbrev keys_of_edges : List Edge → List (Pair64 × Unit {0})
-keys_of_edges list = flat_map (λ e. as_key e ∷ []) list
+keys_of_edges list = flat_map (λ e. as_key false e ∷ []) list
 
 keys-edges : (list : List Edge) → renamed pair64_cmp edge_order pair_of (λ a b. refl) (keys_of_edges list) ≡ elements (pairs_of list)
 keys-edges [] = refl
@@ -83,7 +83,7 @@ in_order_is list keys lent pairs k l p = p ∙ ap as_pairs (l ∙ k) ∙ ordered
 
 -- the same of edges turned round
 abbrev keys_of_turned : List Edge → List (Pair64 × Unit {0})
-keys_of_turned list = flat_map (λ e. as_turned_key e ∷ []) list
+keys_of_turned list = flat_map (λ e. as_key true e ∷ []) list
 
 keys-turned : (list : List Edge) → renamed pair64_cmp edge_order pair_of (λ a b. refl) (keys_of_turned list) ≡ elements (turned (pairs_of list))
 keys-turned [] = refl

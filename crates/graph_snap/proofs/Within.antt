@@ -1,5 +1,5 @@
 -- A search that stops at a distance.
-use Rattle.std.proofs.Common.{◌≡◌, ◌∙◌, ◌+◌, ◌<◌, ◌≤◌, ◌∷◌, [], ℕ, suc, true, false, cond, List, Option, None, Some, length, refl, sym, ap, inl, inr, arith}
+use Rattle.std.proofs.Common.{◌≡◌, ◌∙◌, ◌+◌, ◌<◌, ◌≤◌, ◌∷◌, [], ℕ, suc, true, false, cond, List, Option, None, Some, length, refl, sym, ap, subst, inl, inr, arith}
 use Rattle.std.specs.Prelude.{nat_le}
 use Rattle.std.specs.List.{filter}
 use Rattle.std.specs.Option.{option_and_then}
@@ -10,7 +10,7 @@ use Rattle.map_model.specs.Entries.{IsIncreasing, lookup}
 use Rattle.map_model.proofs.Keys.{IsIncreasing-filter}
 use Rattle.map_model.proofs.Lookups.{equal_lookups, lookup-filter}
 use Rattle.map_model.proofs.NatKeys.{nat_exact}
-use Rattle.graph_snap.specs.Walks.{as_reached, distances, least, reach_within, walk}
+use Rattle.graph_snap.specs.Walks.{as_reached, distances, least, reach, reach_within, walk}
 use Rattle.graph_snap.specs.declared.edge.Reached.{Reached}
 use Rattle.graph_snap.proofs.Fronts.{IsSearch, distances_rise, found-distances}
 use Rattle.graph_snap.proofs.Levels.{least_is, least_none, least_some, level, none_left, settled, short_walk}
@@ -91,6 +91,19 @@ module _ (most : ℕ) where
         ∙ found_near d low v
         ∙ ap (option_and_then if_near) (settled g s d (λ v. none_left (level g s d v) d (sym (so_far.front_at v))) v))
 
+    -- or may take as many edges as there are
+    near_all : length g ≤ most → distances g s ≡ near (distances g s)
+    near_all all =
+        let more : suc (length g) ≡ length g + 1 = omega arith in
+        all_near (distances g s) (distances_rise g s) (λ v. found-distances g s v ∙ subst (λ n. least (walk g s v) n ≡ option_and_then if_near (least (walk g s v) n)) more (found_near (length g) all v))
+
+-- nothing is too far where walks may take as many edges as there are
+within_all : (most : ℕ) (g : List (ℕ × ℕ)) (s : ℕ) → length g ≤ most → reach_within g s most ≡ reach g s
+within_all most g s all = sym (near_reached most (distances g s)) ∙ ap as_reached (sym (near_all most g s all))
+
 -- at the values that the program has
+pub reach_all : (most : ℕ) (edges g : List (ℕ × ℕ)) (s : ℕ) (list : List Reached) → edges ≡ g → most ≡ length edges → list ≡ reach_within edges s most → list ≡ reach g s
+reach_all most edges g s list is m l = l ∙ within_all most edges s (omega (arith, m)) ∙ ap (λ h. reach h s) is
+
 pub within_reach : (most : ℕ) (g : List (ℕ × ℕ)) (s : ℕ) (found : List (ℕ × ℕ)) (list : List Reached) → found ≡ near most (distances g s) → list ≡ as_reached found → list ≡ reach_within g s most
 within_reach most g s found list is l = l ∙ ap as_reached is ∙ near_reached most (distances g s)

@@ -1,16 +1,13 @@
 -- Batches of edges, and maps of sets that they change.
-use Rattle.std.specs.Prelude.{◌≡◌, ◌==◌, [], ◌∷◌, ℕ, suc, Bool, List, cond, length, map, not}
+use Rattle.std.specs.Prelude.{◌≡◌, ◌==◌, [], ◌∷◌, ℕ, suc, Bool, true, false, List, cond, length, map, not}
 use Rattle.aug_monoid.specs.declared.pair64.Pair64.{Pair64}
 use Rattle.graph_snap.specs.Edges.{Sets, edges_of, with_edges, without_edges}
 use Rattle.graph_snap.specs.declared.edge.Edge.{Edge}
 
--- an edge as a key without value
-abbrev pub as_key : Edge → Pair64 × Unit {0}
-as_key e = (record { first = e.from; second = e.to }, tt)
-
--- an edge turned round, as such a key
-abbrev pub as_turned_key : Edge → Pair64 × Unit {0}
-as_turned_key e = (record { first = e.to; second = e.from }, tt)
+-- an edge as a key without value, turned round or as it is
+abbrev pub as_key : Bool → Edge → Pair64 × Unit {0}
+as_key true e = (record { first = e.to; second = e.from }, tt)
+as_key false e = (record { first = e.from; second = e.to }, tt)
 
 -- keys as edges
 abbrev pub as_pairs : List (Pair64 × Unit {0}) → List (ℕ × ℕ)

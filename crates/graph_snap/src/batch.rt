@@ -1,6 +1,6 @@
 //! Batches of edges, as sets of out-neighbours by vertex.
 ghost use Rattle.std.specs.Prelude.{◌≡◌, ◌∷◌, [], map, IfOk};
-ghost use Rattle.graph_snap.specs.Batches.{as_key, as_pairs, as_turned_key, run};
+ghost use Rattle.graph_snap.specs.Batches.{as_key, as_pairs, run};
 ghost use Rattle.graph_snap.specs.Edges.{AreSets, IsGraph, edges_of, pairs_of, reversed, with_edges};
 
 use crate::edge::Edge;
@@ -12,34 +12,14 @@ use std::alloc::Global;
 use std::marker::Sync;
 use std::thread::Threads;
 
-// An edge as a key without value.
+// Edges as keys without values, each turned round or as it is.
 #[derive(Drop)]
-struct Keys;
-
-impl Gives<Edge, Pair64> for Keys {
-    ghost given = { λ _ e. as_key e ∷ [] };
-
-    fn push_given(
-        &self,
-        _alloc: Global,
-        item: &Edge,
-        into: &mut Vec<(Pair64, ())>,
-    ) -> Result<(), NoMemory> {
-        let key = Pair64 {
-            first: item.from,
-            second: item.to,
-        };
-        into.push((key, ()))?;
-        Ok(())
-    }
+struct Keys {
+    turned: bool,
 }
 
-// An edge turned round, as a key without value.
-#[derive(Drop)]
-struct TurnedKeys;
-
-impl Gives<Edge, Pair64> for TurnedKeys {
-    ghost given = { λ _ e. as_turned_key e ∷ [] };
+impl Gives<Edge, Pair64> for Keys {
+    ghost given = { λ k e. as_key k.turned e ∷ [] };
 
     fn push_given(
         &self,
@@ -47,11 +27,12 @@ impl Gives<Edge, Pair64> for TurnedKeys {
         item: &Edge,
         into: &mut Vec<(Pair64, ())>,
     ) -> Result<(), NoMemory> {
-        let key = Pair64 {
-            first: item.to,
-            second: item.from,
+        let (first, second) = if self.turned {
+            (item.to, item.from)
+        } else {
+            (item.from, item.to)
         };
-        into.push((key, ()))?;
+        into.push((Pair64 { first, second }, ()))?;
         Ok(())
     }
 }
@@ -75,7 +56,7 @@ fn in_order<R: Threads + Sync, G: Gate>(
 ) -> Result<Vec<(u64, u64)>, NoMemory>
     ensures { IfOk result (λ edges. edges.items ≡ with_edges [] (pairs_of list.now)) }
 {
-    let keys = set_of(on, alloc, &Keys, list)?;
+    let keys = set_of(on, alloc, &Keys { turned: false }, list)?;
     as_pairs(alloc, &keys)
 }
 
@@ -83,7 +64,7 @@ fn in_order<R: Threads + Sync, G: Gate>(
 fn turned_in_order(alloc: Global, list: &[Edge]) -> Result<Vec<(u64, u64)>, NoMemory>
     ensures { IfOk result (λ edges. edges.items ≡ reversed (pairs_of list.now)) }
 {
-    let keys = set_of_alone(alloc, &TurnedKeys, list)?;
+    let keys = set_of_alone(alloc, &Keys { turned: true }, list)?;
     as_pairs(alloc, &keys)
 }
 

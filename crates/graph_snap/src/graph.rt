@@ -9,7 +9,7 @@ use crate::counting::edges_in;
 use crate::edge::{Edge, Reached};
 use crate::listing::edge_list;
 use crate::search::search;
-use crate::search_alone::{search_alone, search_within};
+use crate::search_alone::search_within;
 use crate::vertices::{
     Vertices, degree_at, has_edge, neighbours_at, with_sets, with_sets_into, without_sets,
 };
@@ -219,7 +219,7 @@ impl Graph {
         ensures value { IfOk result (λ found. found.items ≡ reach self.now from) }
         ensures least { IfOk result (λ found. HasDistances self.now from found.items) }
     {
-        search_alone(alloc, &self.vertices, from)
+        search_within(alloc, &self.vertices, from, self.edges)
     }
 
     /// What `bfs_alone` answers, but for the vertices that take more than `most` edges. It stops at that distance.

@@ -5,12 +5,10 @@ ghost use Rattle.map_model.specs.Entries.{IsIncreasing};
 ghost use Rattle.map_model.specs.SetOperations.{difference};
 ghost use Rattle.graph_snap.specs.Edges.{AreSets, edges_of};
 ghost use Rattle.graph_snap.specs.Merging.{at_distance, neighbours_of, next_front};
-ghost use Rattle.graph_snap.specs.Walks.{reach, reach_within};
+ghost use Rattle.graph_snap.specs.Walks.{reach_within};
 
 use crate::edge::Reached;
-use crate::search::{
-    Distances, Near, first_front, further, is_narrow, listed, not_in_list, pairs_at,
-};
+use crate::search::{Distances, Near, first_front, is_narrow, listed, not_in_list, pairs_at};
 use crate::vertices::Vertices;
 use aug_map::CodedMap;
 use aug_monoid::{First, NoMemory};
@@ -72,26 +70,6 @@ fn next_front_alone(
 {
     let near = near_pairs_alone(alloc, vertices, front, distance)?;
     not_found_alone(alloc, &near, found)
-}
-
-/// What walks from a vertex reach, with the least numbers of edges, on one thread.
-pub(crate) fn search_alone(
-    alloc: Global,
-    vertices: &Vertices,
-    from: u64,
-) -> Result<Vec<Reached>, NoMemory>
-    requires { AreSets vertices.now.entries }
-    ensures { IfOk result (λ found. found.items ≡ reach (edges_of vertices.now.entries) from) }
-{
-    let mut front = first_front(alloc, from)?;
-    let mut found = Distances::single(alloc, from, 0)?;
-    let mut distance: u64 = 0;
-    'levels: while front.len() > 0 {
-        distance = further(distance)?;
-        front = next_front_alone(alloc, vertices, &front, &found, distance)?;
-        found = found.union_into_alone(alloc, &front, &First)?;
-    }
-    listed(alloc, &found)
 }
 
 /// What walks of at most `most` edges from a vertex reach, with the least numbers of edges, on one thread.
