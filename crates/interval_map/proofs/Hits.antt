@@ -1,10 +1,12 @@
 -- Intervals by where they begin and end.
-use Rattle.std.proofs.Common.{◌≡◌, ℕ, ◌-◌, ◌^◌, ◌<◌, ◌≤◌, ◌&&◌, ◌||◌, ◌↔◌, IsTrue, Bool, true, false, cond, List, [], ◌∷◌, None, Some, nat_le, refl, ap, subst, ◌∙◌, arith}
+use Rattle.std.proofs.Common.{◌≡◌, ℕ, ◌-◌, ◌^◌, ◌<◌, ◌≤◌, ◌&&◌, ◌||◌, ◌↔◌, IsTrue, Bool, true, false, cond, not, List, [], ◌∷◌, None, Some, nat_le, refl, ap, subst, ◌∙◌, arith}
 use Rattle.std.proofs.lemmas.Bool.Decides.{nat_tests}
+use Rattle.std.specs.BTreeMap.Range.{entries_between}
+use Rattle.std.specs.declared.ops.Bound.TheVariants.{Included}
 use Rattle.std.specs.List.{AllByRecursion, filter, slice_get}
 use Rattle.std.specs.Map.{keys_of}
 use Rattle.std.specs.Option.{option_map}
-use Rattle.std.specs.Ordering.{is_ge, is_le}
+use Rattle.std.specs.Ordering.{is_ge, is_le, is_lt}
 use Rattle.aug_monoid.specs.Exact.{pair64_cmp}
 use Rattle.aug_monoid.specs.Greatest.{greater_of}
 use Rattle.aug_monoid.specs.declared.pair64.Pair64.{Pair64}
@@ -21,9 +23,9 @@ begins_by p i h = grind (arith, nat_tests)
 begins_from : (i : Pair64) → is_ge (pair64_cmp i (interval 0 0)) ≡ true
 begins_from i = grind (arith, nat_tests)
 
--- an interval begins from lo to hi and ends at most at hi where it begins at least at lo and ends at most at hi
+-- an interval is between the least and the greatest ones that begin from lo to hi, and ends at most at hi, where it begins at least at lo and ends at most at hi
 begins_within : (lo hi : ℕ) (i : Pair64) → i.first ≤ i.second → i.second < 2 ^ 64
-    → ((is_ge (pair64_cmp i (interval lo 0)) && is_le (pair64_cmp i (interval hi (2 ^ 64 - 1)))) && nat_le i.second hi) ≡ (nat_le lo i.first && nat_le i.second hi)
+    → ((is_le (pair64_cmp (interval lo 0) i) && not (is_lt (pair64_cmp (interval hi (2 ^ 64 - 1)) i))) && nat_le i.second hi) ≡ (nat_le lo i.first && nat_le i.second hi)
 begins_within lo hi i ends fits = grind (arith, nat_tests)
 
 -- whether a list has an item
@@ -54,18 +56,22 @@ module _ {V : Type 0} where
         | false ↦ rest
       ])
 
-  -- of the intervals that begin from lo to hi the ones that end at most at hi
+  -- the entries of the intervals that begin from lo to hi
+  abbrev pub begun : List (Pair64 × V) → ℕ → ℕ → List (Pair64 × V)
+  begun m lo hi = entries_between pair64_cmp (Included (interval lo 0)) (Included (interval hi (2 ^ 64 - 1))) m
+
+  -- of these the ones that end at most at hi
   pub keys-contained : (m : List (Pair64 × V)) (lo hi : ℕ) → AllByRecursion IsInterval (keys_of m)
-      → filter (λ i. nat_le i.second hi) (keys_of (slice pair64_cmp m (interval lo 0) (interval hi (2 ^ 64 - 1)))) ≡ contained (keys_of m) lo hi
+      → filter (λ i. nat_le i.second hi) (keys_of (begun m lo hi)) ≡ contained (keys_of m) lo hi
   keys-contained [] lo hi a = refl
   keys-contained (e ∷ m) lo hi a =
-      let begun = slice pair64_cmp m (interval lo 0) (interval hi (2 ^ 64 - 1)) in
+      let later = begun m lo hi in
       let kept = contained (keys_of m) lo hi in
-      let rest : filter (λ i. nat_le i.second hi) (keys_of begun) ≡ kept = keys-contained m lo hi a.1 in
-      subst (λ (t : Bool). filter (λ i. nat_le i.second hi) (keys_of (slice pair64_cmp (e ∷ m) (interval lo 0) (interval hi (2 ^ 64 - 1)))) ≡ cond t (e.0 ∷ kept) kept) (begins_within lo hi e.0 a.0.0 a.0.1)
-      (elim (is_ge (pair64_cmp e.0 (interval lo 0)) && is_le (pair64_cmp e.0 (interval hi (2 ^ 64 - 1)))) as (λ b.
-      filter (λ i. nat_le i.second hi) (keys_of (cond b (e ∷ begun) begun)) ≡ cond (b && nat_le e.0.second hi) (e.0 ∷ kept) kept) [
-        | true ↦ elim (nat_le e.0.second hi) as (λ b. cond b (e.0 ∷ filter (λ i. nat_le i.second hi) (keys_of begun)) (filter (λ i. nat_le i.second hi) (keys_of begun)) ≡ cond b (e.0 ∷ kept) kept) [
+      let rest : filter (λ i. nat_le i.second hi) (keys_of later) ≡ kept = keys-contained m lo hi a.1 in
+      subst (λ (t : Bool). filter (λ i. nat_le i.second hi) (keys_of (begun (e ∷ m) lo hi)) ≡ cond t (e.0 ∷ kept) kept) (begins_within lo hi e.0 a.0.0 a.0.1)
+      (elim (is_le (pair64_cmp (interval lo 0) e.0) && not (is_lt (pair64_cmp (interval hi (2 ^ 64 - 1)) e.0))) as (λ b.
+      filter (λ i. nat_le i.second hi) (keys_of (cond b (e ∷ later) later)) ≡ cond (b && nat_le e.0.second hi) (e.0 ∷ kept) kept) [
+        | true ↦ elim (nat_le e.0.second hi) as (λ b. cond b (e.0 ∷ filter (λ i. nat_le i.second hi) (keys_of later)) (filter (λ i. nat_le i.second hi) (keys_of later)) ≡ cond b (e.0 ∷ kept) kept) [
           | true ↦ ap (λ is. e.0 ∷ is) rest
           | false ↦ rest
         ]

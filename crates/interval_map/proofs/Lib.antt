@@ -2,3 +2,4 @@ pub mod Keys
 pub mod Sets
 pub mod Hits
 pub mod Heights
+pub mod Joins

@@ -1,3 +1,4 @@
 pub mod Heights
 pub mod Intervals
 pub mod Ends
+pub mod Merged

@@ -1,6 +1,5 @@
 //! Which intervals have a number, or a number of a range, and which are there.
-ghost use Rattle.std.specs.Prelude.{◌≡◌, ◌↔◌, ◌+◌, ◌*◌, ◌≤◌, ℕ, [], Contains, IfOk, IsTrue, length, nat_le, slice_get, take};
-ghost use Rattle.std.specs.List.{filter};
+ghost use Rattle.std.specs.Prelude.{◌≡◌, ◌↔◌, ◌+◌, ◌*◌, ◌≤◌, ℕ, [], Contains, IfOk, IsTrue, length, slice_get, take};
 ghost use Rattle.std.specs.Map.{keys_of};
 ghost use Rattle.aug_monoid.specs.Exact.{pair64_cmp};
 ghost use Rattle.map_model.specs.Parts.{slice};
@@ -12,6 +11,7 @@ use crate::intervals::{Intervals, interval};
 use aug_monoid::{AugTest, MaxRight, NoMemory, Pair64, Steps};
 use ord_map::OrdMap;
 use std::alloc::Global;
+use std::ops::Bound;
 use std::sync::ledger::Ledger;
 
 // The first `count` keys of a map in order.
@@ -34,32 +34,6 @@ fn begun(alloc: Global, map: &OrdMap<MaxRight>, hi: u64) -> Result<OrdMap<MaxRig
     ensures { IfOk result (λ begun. begun ≡ slice pair64_cmp map.now (interval 0 0) (interval hi u64.MAX)) }
 {
     map.range(alloc, &interval(0, 0), &interval(hi, u64::MAX))
-}
-
-// The entries of the intervals that begin from `lo` to `hi`.
-fn begun_within(
-    alloc: Global,
-    map: &OrdMap<MaxRight>,
-    lo: u64,
-    hi: u64,
-) -> Result<OrdMap<MaxRight>, NoMemory>
-    ensures { IfOk result (λ begun. begun ≡ slice pair64_cmp map.now (interval lo 0) (interval hi u64.MAX)) }
-{
-    map.range(alloc, &interval(lo, 0), &interval(hi, u64::MAX))
-}
-
-// The keys of a map that end at most at `hi`, in order.
-fn ended(alloc: Global, map: &OrdMap<MaxRight>, hi: u64) -> Result<Vec<Pair64>, NoMemory>
-    ensures { IfOk result (λ keys. keys.items ≡ filter (λ i. nat_le i.second hi) (keys_of map.now)) }
-{
-    let mut keys = Vec::new(alloc);
-    for entry in map.iter(alloc) {
-        let (key, ()) = entry?;
-        if key.second <= hi {
-            keys.push(key)?;
-        }
-    }
-    Ok(keys)
 }
 
 impl Intervals {
@@ -174,12 +148,23 @@ impl Intervals {
         OrdMap::from_map(hits).keys(alloc)
     }
 
-    /// The intervals that begin at least at `lo` and end at most at `hi`, in order. O(log n + k) for n intervals of which k begin
-    /// from `lo` to `hi`.
+    /// The intervals that begin at least at `lo` and end at most at `hi`, in order. It goes over those that begin from `lo` to `hi`
+    /// and makes no set of them: O(log n + k) for n intervals of which k begin there.
     pub fn contained_in(&self, alloc: Global, lo: u64, hi: u64) -> Result<Vec<Pair64>, NoMemory>
         ensures { IfOk result (λ inside. inside.items ≡ contained self.now lo hi) }
     {
-        let begun = begun_within(alloc, &self.map, lo, hi)?;
-        ended(alloc, &begun, hi)
+        let least = interval(lo, 0);
+        let greatest = interval(hi, u64::MAX);
+        let begun = self
+            .map
+            .range_iter(alloc, Bound::Included(&least), Bound::Included(&greatest));
+        let mut inside = Vec::new(alloc);
+        for entry in begun {
+            let (key, ()) = entry?;
+            if key.second <= hi {
+                inside.push(key)?;
+            }
+        }
+        Ok(inside)
     }
 }

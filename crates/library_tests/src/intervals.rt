@@ -134,6 +134,31 @@ fn the_intervals_that_lie_in_a_range(rt: HostRuntime) {
     assert_contained(&rt, rt.alloc(), &all(&rt, rt.alloc()));
 }
 
+/// The ends of some intervals, and of the parts of the line that they cover.
+const MERGED: &[(&[(u64, u64)], &[(u64, u64)])] = &[
+    (&[], &[]),
+    (&[(4, 4)], &[(4, 4)]),
+    (&ENDS, &[(0, 0), (2, u64::MAX)]),
+    (&[(3, 4), (1, 2)], &[(1, 2), (3, 4)]),
+    (&[(1, 9), (2, 3), (5, 6), (8, 8)], &[(1, 9)]),
+    (
+        &[(1, 2), (2, 4), (6, 6), (9, 12), (8, 10), (9, 9)],
+        &[(1, 4), (6, 6), (8, 12)],
+    ),
+    (&[(0, u64::MAX), (u64::MAX, u64::MAX)], &[(0, u64::MAX)]),
+];
+
+fn assert_merged<R: Abort>(rt: &R, alloc: Global) {
+    for (ends, parts) in MERGED {
+        assert_hits(rt, set_of(rt, alloc, ends).merged(alloc), parts);
+    }
+}
+
+#[test]
+fn the_parts_of_the_line_that_intervals_cover(rt: HostRuntime) {
+    assert_merged(&rt, rt.alloc());
+}
+
 /// All intervals in order.
 const SORTED: &[(u64, u64)] = &[(0, 0), (2, 3), (3, 3), (3, 9), (4, 5), (7, u64::MAX)];
 
