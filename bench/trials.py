@@ -50,7 +50,7 @@ class Example:
 
 
 def run(words, settings=None, limits=(), prepare=None, seconds=SECONDS, **given):
-    """A run, whose input and outputs are pipes where they are not given."""
+    """A run, whose input is a file, of which it takes as many reads each time, and whose outputs are pipes, where they are not given."""
 
     def begin():
         for what, most in limits:
@@ -58,11 +58,14 @@ def run(words, settings=None, limits=(), prepare=None, seconds=SECONDS, **given)
         if prepare:
             prepare()
 
-    outputs = {"stdout": subprocess.PIPE, "stderr": subprocess.PIPE}
-    try:
-        ran = subprocess.run(words, env=settings or {}, preexec_fn=begin, timeout=seconds, **{**outputs, **given})
-    except subprocess.TimeoutExpired:
-        return Run(HANG, b"", b"")
+    with tempfile.TemporaryFile() as file:
+        file.write(given.pop("input", b""))
+        file.seek(0)
+        streams = {"stdin": file, "stdout": subprocess.PIPE, "stderr": subprocess.PIPE}
+        try:
+            ran = subprocess.run(words, env=settings or {}, preexec_fn=begin, timeout=seconds, **{**streams, **given})
+        except subprocess.TimeoutExpired:
+            return Run(HANG, b"", b"")
     return Run(ran.returncode, ran.stdout or b"", ran.stderr or b"")
 
 
