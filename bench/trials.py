@@ -50,7 +50,7 @@ class Example:
 
 
 def run(words, settings=None, limits=(), prepare=None, seconds=SECONDS, **given):
-    """A run, whose input is a file, of which it takes as many reads each time, and whose outputs are pipes, where they are not given."""
+    """A run, whose input is a file, so that it takes as many reads each time, and whose outputs are pipes, where they are not given."""
 
     def begin():
         for what, most in limits:
