@@ -1,12 +1,15 @@
 -- A node made anew over changed sides.
-use Rattle.std.proofs.Common.{◌≡◌, ℕ, zero, suc, ◌+◌, ◌^◌, ◌<◌, ◌≤◌, List, [], ◌∷◌, ◌++◌, length, take, drop, refl, sym, ◌∙◌, subst, arith}
+use Rattle.std.proofs.Common.{◌≡◌, ℕ, zero, suc, ◌+◌, ◌^◌, ◌<◌, ◌≤◌, List, [], ◌∷◌, ◌++◌, length, take, drop, is_some, true, refl, sym, ap, ◌∙◌, subst, arith}
 use Rattle.std.specs.Prelude.{Result, Ok, Err, IfOk, OnErr}
+use Rattle.std.specs.Cmp.{IsTotalOrder}
 use Rattle.std.specs.declared.cmp.Ordering.{Ordering}
 use Rattle.map_model.specs.Balance.{FillsNode, IsBalanced, weight}
 use Rattle.map_model.specs.Contents.{Contents}
-use Rattle.map_model.specs.Entries.{IsIncreasing}
-use Rattle.map_model.proofs.Cuts.{length-around}
+use Rattle.map_model.specs.Entries.{IsIncreasing, below, drop_key, lookup}
+use Rattle.map_model.specs.Order.{IsExact}
+use Rattle.map_model.proofs.Cuts.{length-around, parts_found}
 use Rattle.map_model.proofs.Heights.{node_is_long}
+use Rattle.map_model.proofs.Splits.{drop_key-split}
 use Rattle.tree_shape.specs.Shape.{IsNode}
 use Rattle.tree_shape.specs.declared.tree.Node.{Node}
 use Rattle.tree_change.specs.Refreshed.{IsRefreshed}
@@ -16,12 +19,23 @@ pub by_outcome : {A B E F G H P : Type 0} (r : Result A B) → IfOk r (λ _. E) 
 by_outcome (Ok _) e f g h done refused = done e f
 by_outcome (Err _) e f g h done refused = refused g h
 
+-- what is longer stays so under other names
+pub longer_seen : {E : Type 0} {old new before after : List E} → old ≡ before → after ≡ new → length old < length new → length before < length after
+longer_seen before_is after_is more = omega (arith, ap length before_is, ap length after_is, more)
+
 -- what is left of one entry without it
 pub nothing_left : {E : Type 0} (es : List E) (at : ℕ) → at < length es → length es ≤ 1 → take at es ++ drop (at + 1) es ≡ []
 nothing_left [] at h few = absurd (omega (arith, h))
 nothing_left (e ∷ []) zero h few = refl
 nothing_left (e ∷ []) (suc at) h few = absurd (omega (arith, h))
 nothing_left (e ∷ f ∷ es) at h few = absurd (omega (arith, few))
+
+module _ {K V : Type 0} {order : K → K → Ordering} (total : IsTotalOrder order) (exact : IsExact order) where
+  -- without the entry at its place a list is without the key
+  pub found_dropped : (m : List (K × V)) (q : K) (at : ℕ) → IsIncreasing order m → is_some (lookup order m q) ≡ true → at ≡ length (below order m q) → take at m ++ drop (at + 1) m ≡ drop_key order m q
+  found_dropped m q at rises hit at_is =
+      let parts = parts_found total exact m q rises hit in
+      rw (at_is, parts.0, parts.1) (sym (drop_key-split total exact m q rises))
 
 module _ {M K V X A L : Type 0} (order : K → K → Ordering) (base : K → V → X) (unit : X) (combine : X → X → X) (block : ℕ) where
   -- a lawful node of these entries

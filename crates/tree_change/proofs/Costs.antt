@@ -13,7 +13,7 @@ pub copied_cost : (height block find start looked copied : ℕ) → looked ≤ s
 copied_cost height block find start looked copied look cost = omega (arith, look, cost)
 
 -- a place sought in a block, and one or two blocks made of it
-pub sought_cost : (height block find start sought made : ℕ) → sought ≤ start + find → made ≤ sought + 4 * block → made ≤ start + (64 * (height + 1) * (block + 2) + find)
+pub sought_cost : (height block find start sought made : ℕ) → sought ≤ start + find → made ≤ sought + 4 * block → made < start + (64 * (height + 1) * (block + 2) + find)
 sought_cost height block find start sought made look cost =
     let level : 64 ≤ 64 * (height + 1) = omega arith in
     let more = mul-le-mul_right (block + 2) level in

@@ -45,6 +45,15 @@ module _ {M K V X A L : Type 0} {order : K → K → Ordering} (total : IsTotalO
       let few : length side.entries ≤ length node.right.entries + 1 = rw put sizes.1 in
       omega (arith, few, more, own.shape.size_is, length-around node.left.entries (node.key, node.val) node.right.entries)
 
+  -- a put that makes a side longer makes the map longer
+  pub put_left_longer : (side : Contents K V) → side.entries ≡ set order node.left.entries q v → order q node.key ≡ Less → length node.left.entries < length side.entries → length map.entries < length (set order map.entries q v)
+  put_left_longer side put less more =
+      omega (arith, more, ap length own.entries_are, ap length (left_whole side put less), length-around node.left.entries (node.key, node.val) node.right.entries, length-around side.entries (node.key, node.val) node.right.entries)
+
+  pub put_right_longer : (side : Contents K V) → side.entries ≡ set order node.right.entries q v → order q node.key ≡ Greater → length node.right.entries < length side.entries → length map.entries < length (set order map.entries q v)
+  put_right_longer side put greater more =
+      omega (arith, more, ap length own.entries_are, ap length (right_whole side put greater), length-around node.left.entries (node.key, node.val) node.right.entries, length-around node.left.entries (node.key, node.val) side.entries)
+
   module _ {Fits : X → Type 0} (monoid : IsMonoidOver Fits unit combine) (base_fits : (k : K) (w : V) → Fits (base k w)) (alike : IsCommutativeOver Fits combine) where
     -- the fold of the map with a new key
     fold_grown : length map.entries < length (set order map.entries q v) → fold_of base unit combine (set order map.entries q v) ≡ combine node.fold (base q v)
@@ -57,18 +66,12 @@ module _ {M K V X A L : Type 0} {order : K → K → Ordering} (total : IsTotalO
     pub put_left_fold : (side : Contents K V) → side.entries ≡ set order node.left.entries q v → order q node.key ≡ Less → length node.left.entries < length side.entries
         → fold_of base unit combine (side.entries ++ (node.key, node.val) ∷ node.right.entries) ≡ combine node.fold (base q v)
     put_left_fold side put less more =
-        let whole = left_whole side put less in
-        let longer : length map.entries < length (set order map.entries q v) =
-        omega (arith, more, ap length own.entries_are, ap length whole, length-around node.left.entries (node.key, node.val) node.right.entries, length-around side.entries (node.key, node.val) node.right.entries) in
-        ap (fold_of base unit combine) whole ∙ fold_grown longer
+        ap (fold_of base unit combine) (left_whole side put less) ∙ fold_grown (put_left_longer side put less more)
 
     pub put_right_fold : (side : Contents K V) → side.entries ≡ set order node.right.entries q v → order q node.key ≡ Greater → length node.right.entries < length side.entries
         → fold_of base unit combine (node.left.entries ++ (node.key, node.val) ∷ side.entries) ≡ combine node.fold (base q v)
     put_right_fold side put greater more =
-        let whole = right_whole side put greater in
-        let longer : length map.entries < length (set order map.entries q v) =
-        omega (arith, more, ap length own.entries_are, ap length whole, length-around node.left.entries (node.key, node.val) node.right.entries, length-around node.left.entries (node.key, node.val) side.entries) in
-        ap (fold_of base unit combine) whole ∙ fold_grown longer
+        ap (fold_of base unit combine) (right_whole side put greater) ∙ fold_grown (put_right_longer side put greater more)
 
   pub put_left_fits : (side : Contents K V) → side.entries ≡ set order node.left.entries q v → HasRoom block (length node.left.entries) (length node.right.entries) → length side.entries + length node.right.entries + 1 < 2 ^ 60
   put_left_fits side put room =

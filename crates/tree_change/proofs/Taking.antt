@@ -1,5 +1,5 @@
 -- The fold of entries among which a new one comes to stand, where values combine alike in either order.
-use Rattle.std.proofs.Common.{◌≡◌, ℕ, ◌+◌, ◌<◌, cond, List, ◌∷◌, ◌++◌, length, Some, None, is_some, refl, sym, ap, ◌∙◌, arith}
+use Rattle.std.proofs.Common.{◌≡◌, ◌+◌, ◌<◌, cond, List, ◌∷◌, ◌++◌, length, Some, None, is_some, refl, sym, ap, ◌∙◌, arith}
 use Rattle.std.specs.Cmp.{IsTotalOrder}
 use Rattle.std.specs.declared.cmp.Ordering.{Ordering}
 use Rattle.map_model.specs.Entries.{IsIncreasing, above, below, lookup, set}
@@ -23,6 +23,10 @@ module _ {K V : Type 0} {order : K → K → Ordering} (total : IsTotalOrder ord
         | None ↦ λ _. refl
         | Some w ↦ λ same. absurd (omega (arith, same, longer))
       ] (length-set total exact m k v rises)
+
+  -- and a new key makes it longer
+  pub longer_if_new : (m : List (K × V)) (k : K) (v : V) → IsIncreasing order m → lookup order m k ≡ None → length m < length (set order m k v)
+  longer_if_new m k v rises new = rw (length-set total exact m k v rises, new) (omega arith)
 
 module _ {K V X : Type 0} {Fits : X → Type 0} {base : K → V → X} {unit : X} {combine : X → X → X} (monoid : IsMonoidOver Fits unit combine) (base_fits : (k : K) (v : V) → Fits (base k v)) (alike : IsCommutativeOver Fits combine) where
   -- an entry between others may be taken in last

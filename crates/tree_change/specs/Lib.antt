@@ -1,3 +1,4 @@
 pub mod Room
 pub mod Refreshed
 pub mod Ways
+pub mod Growths

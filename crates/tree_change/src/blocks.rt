@@ -1,9 +1,12 @@
 //! Changes in place of a block that has one owner.
-ghost use Rattle.std.specs.Prelude.{◌≡◌, ◌+◌, ◌<◌, ◌≤◌, ◌↔◌, ◌++◌, IfOk, OnErr, IsSome, IsTrue, length, take, drop};
-ghost use Rattle.map_model.specs.Entries.{IsIncreasing, below, lookup, set};
+ghost use Rattle.std.specs.Prelude.{◌≡◌, ◌+◌, ◌*◌, ◌<◌, ◌≤◌, ◌↔◌, [], ◌++◌, IfOk, OnErr, IsSome, IsTrue, length, take, drop};
+ghost use Rattle.map_model.specs.Entries.{IsIncreasing, below, drop_key, lookup, set};
 ghost use Rattle.map_model.specs.Fold.{fold_of};
+ghost use Rattle.tree_shape.specs.Shape.{IsBlock};
+ghost use Rattle.tree_change.specs.Growths.{IsLarger};
 ghost use Rattle.tree_change.specs.Refreshed.{TakesIn};
 
+use crate::nodes::Growth;
 use crate::shape_mut::ShapeMut;
 use aug_monoid::{Augment, Key, Leaf, LeafMut, NoMemory, Seek, Share, Steps};
 use std::alloc::Global;
@@ -60,7 +63,8 @@ fn fold_after_put<A: Augment, L: Leaf<A::Key, A::Val>, C: Ledger>(
     fold
 }
 
-/// Sets a key of a block to a value at its place, and makes the fold of what it was and the entry's base value, or anew.
+/// Sets a key of a block to a value at its place, makes the fold of what it was and the entry's base value, or anew, and answers
+/// what that did to the map.
 pub(crate) fn put_in_own_block<M: ShapeMut, C: Ledger>(
     alloc: Global,
     block: &mut Block<M>,
@@ -69,7 +73,7 @@ pub(crate) fn put_in_own_block<M: ShapeMut, C: Ledger>(
     val: M::Val,
     base: &M::Aug,
     steps: &mut Steps<C>,
-) -> Result<(), NoMemory>
+) -> Result<Growth, NoMemory>
     requires total { M.Augment.never_refuses }
     requires base { base.now ≡ M.Augment.base_of key val }
     requires folded { block.old.fold ≡ fold_of M.Augment.base_of M.Augment.unit_of M.Augment.combined (M.Leaf.entries block.old.leaf) }
@@ -78,6 +82,7 @@ pub(crate) fn put_in_own_block<M: ShapeMut, C: Ledger>(
     requires at { place.at ≡ length (below M.Key.cmp (M.Leaf.entries block.old.leaf) key) }
     requires hit { IsTrue place.hit ↔ IsSome (lookup M.Key.cmp (M.Leaf.entries block.old.leaf) key) }
     ensures entries { IfOk result (λ _. M.Leaf.entries block.new.leaf ≡ set M.Key.cmp (M.Leaf.entries block.old.leaf) key val) }
+    ensures larger { IfOk result (λ growth. IsLarger growth → length (M.Leaf.entries block.old.leaf) < length (M.Leaf.entries block.new.leaf)) }
     ensures fold { IfOk result (λ _. block.new.fold ≡ fold_of M.Augment.base_of M.Augment.unit_of M.Augment.combined (M.Leaf.entries block.new.leaf)) }
     ensures kept { OnErr result (M.Leaf.entries block.new.leaf ≡ M.Leaf.entries block.old.leaf) }
     ensures kept_fold { OnErr result (block.new.fold ≡ block.old.fold) }
@@ -92,11 +97,11 @@ pub(crate) fn put_in_own_block<M: ShapeMut, C: Ledger>(
         base,
         steps,
     );
-    Ok(())
+    Ok(Growth::in_block(!place.hit))
 }
 
 /// Removes the entry at a place from a block, and makes the fold anew.
-pub(crate) fn remove_in_own_block<M: ShapeMut, C: Ledger>(
+fn remove_in_own_block<M: ShapeMut, C: Ledger>(
     alloc: Global,
     block: &mut Block<M>,
     at: u64,
@@ -116,4 +121,30 @@ pub(crate) fn remove_in_own_block<M: ShapeMut, C: Ledger>(
     };
     block.fold = fold;
     Ok(())
+}
+
+/// Removes a key from a block, which need not have it, and answers whether it is the block's only one: then the block is as it was.
+pub(crate) fn del_in_own_block<M: ShapeMut, C: Ledger>(
+    alloc: Global,
+    block: &mut Block<M>,
+    key: &M::Key,
+    steps: &mut Steps<C>,
+) -> Result<bool, NoMemory>
+    requires total { M.Augment.never_refuses }
+    requires lawful { IsBlock M.Key.cmp M.Augment.base_of M.Augment.unit_of M.Augment.combined M.BLOCK (M.Leaf.entries block.old.leaf) block.old.fold }
+    ensures lawful { IsBlock M.Key.cmp M.Augment.base_of M.Augment.unit_of M.Augment.combined M.BLOCK (M.Leaf.entries block.new.leaf) block.new.fold }
+    ensures entries { IfOk result (λ is_only. (¬ (IsTrue is_only)) → M.Leaf.entries block.new.leaf ≡ drop_key M.Key.cmp (M.Leaf.entries block.old.leaf) key.now) }
+    ensures only { IfOk result (λ is_only. IsTrue is_only → drop_key M.Key.cmp (M.Leaf.entries block.old.leaf) key.now ≡ []) }
+    ensures kept { OnErr result (M.Leaf.entries block.new.leaf ≡ M.Leaf.entries block.old.leaf) }
+    ensures cost { steps.new ≤ steps.old + (2 * M.BLOCK + M.Leaf.FIND) }
+{
+    let place = block.leaf.seek(key, steps);
+    if !place.hit {
+        return Ok(false);
+    }
+    if block.leaf.len() == 1 {
+        return Ok(true);
+    }
+    remove_in_own_block(alloc, block, place.at, steps)?;
+    Ok(false)
 }

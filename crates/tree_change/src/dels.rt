@@ -2,10 +2,10 @@
 ghost use Rattle.std.specs.Prelude.{◌≡◌, ◌+◌, ◌*◌, ◌≤◌, IfOk, OnErr};
 ghost use Rattle.map_model.specs.Entries.{drop_key};
 
-use crate::blocks::remove_in_own_block;
+use crate::blocks::del_in_own_block;
 use crate::nodes::{PartMut, Way, refresh, way_of_del};
 use crate::shape_mut::ShapeMut;
-use aug_monoid::{Augment, Leaf, NoMemory, Steps};
+use aug_monoid::{Augment, NoMemory, Steps};
 use std::alloc::Global;
 use std::sync::Arc;
 use std::sync::ledger::Ledger;
@@ -49,12 +49,7 @@ fn del_in<M: ShapeMut, C: Ledger>(
         Top::Empty => return Ok(()),
         Top::Block(owner) => {
             if let Some(block) = Arc::get_mut(owner) {
-                let place = block.leaf.seek(key, steps);
-                if !place.hit {
-                    return Ok(());
-                }
-                if block.leaf.len() > 1 {
-                    remove_in_own_block(alloc, block, place.at, steps)?;
+                if !del_in_own_block(alloc, block, key, steps)? {
                     return Ok(());
                 }
                 *tree = Tree::empty();
@@ -65,26 +60,18 @@ fn del_in<M: ShapeMut, C: Ledger>(
             if let Some(node) = Arc::get_mut(owner) {
                 match way_of_del(node, key, steps) {
                     Way::Left => {
-                        del_in(
-                            alloc,
-                            PartMut {
-                                tree: &mut node.left,
-                            },
-                            key,
-                            steps,
-                        )?;
+                        let left = PartMut {
+                            tree: &mut node.left,
+                        };
+                        del_in(alloc, left, key, steps)?;
                         refresh(alloc, node, steps);
                         return Ok(());
                     }
                     Way::Right => {
-                        del_in(
-                            alloc,
-                            PartMut {
-                                tree: &mut node.right,
-                            },
-                            key,
-                            steps,
-                        )?;
+                        let right = PartMut {
+                            tree: &mut node.right,
+                        };
+                        del_in(alloc, right, key, steps)?;
                         refresh(alloc, node, steps);
                         return Ok(());
                     }

@@ -1,7 +1,8 @@
 //! What a node needs to be changed in place.
-ghost use Rattle.std.specs.Prelude.{◌≡◌, ◌+◌, ◌^◌, ◌<◌, ◌≤◌, IsTrue, length, max};
+ghost use Rattle.std.specs.Prelude.{◌≡◌, ℕ, ◌+◌, ◌^◌, ◌<◌, ◌≤◌, IsTrue, length, max};
 ghost use Rattle.map_model.specs.Balance.{FillsNode, HeightLaw, IsBalanced, weight};
 ghost use Rattle.aug_monoid.specs.Commuting.{IsCommutativeOver};
+ghost use Rattle.tree_change.specs.Growths.{IsAsHigh, IsLarger};
 ghost use Rattle.tree_change.specs.Refreshed.{IsRefreshed, NodeTakesIn};
 ghost use Rattle.tree_change.specs.Room.{CanSpare, HasRoom};
 ghost use Rattle.tree_change.specs.Ways.{IsWayOfDel, IsWayOfPut};
@@ -19,21 +20,23 @@ pub(crate) struct PartMut<'a, M: Shape> {
     pub(crate) tree: &'a mut Tree<M>,
 }
 
-/// How many entries a map has, and how high it is.
+/// What a put did to the extent of a map. It has no fields, so that it goes from level to level in a register.
 #[derive(Clone, Copy)]
-pub(crate) struct Extent {
-    size: u64,
-    height: u32,
+pub(crate) enum Growth {
+    /// There is no entry more.
+    Same,
+    /// There is an entry more, in a tree as high.
+    Entry,
+    /// There is an entry more, in a tree that may be higher.
+    Level,
 }
 
-/// The extent of a map. O(1).
-pub(crate) fn extent_of<M: Shape>(tree: &Tree<M>) -> Extent
-    ensures size { result.size ≡ length tree.now.entries }
-    ensures height { result.height ≡ tree.now.height }
-{
-    Extent {
-        size: tree.size(),
-        height: tree.height(),
+impl Growth {
+    /// What a put in place does to a block.
+    pub(crate) fn in_block(is_new: bool) -> Growth
+        ensures { IsLarger result → IsTrue is_new }
+    {
+        if is_new { Growth::Entry } else { Growth::Same }
     }
 }
 
@@ -50,28 +53,21 @@ pub(crate) enum Way {
     Copy,
 }
 
-/// How many entries a node of so many has beside one of its sides, without a look at the other side.
-fn size_beside<M: Shape>(near: &Tree<M>, node_size: u64) -> u64
-    requires { length near.now.entries < node_size }
-    ensures { length near.now.entries + result + 1 ≡ node_size }
-{
-    node_size - near.size() - 1
-}
-
-/// Whether a node over two sides stays one with an entry more on the near side, or as many.
-fn has_room<M: Shape>(near: &Tree<M>, far_size: u64) -> bool
-    requires { far_size < 2 ^ 60 }
-    ensures { IsTrue result → HasRoom M.BLOCK (length near.now.entries) far_size }
+/// Whether a node of so many entries stays one with an entry more on the near side, or as many.
+fn has_room<M: Shape>(near: &Tree<M>, node_size: u64) -> bool
+    requires inside { length near.now.entries < node_size }
+    requires fits { node_size < 2 ^ 60 }
+    ensures { IsTrue result → (far : ℕ) → length near.now.entries + far + 1 ≡ node_size → HasRoom M.BLOCK (length near.now.entries) far }
 {
     let near_size = near.size();
     let block = near.block_size();
-    if near_size + far_size + 2 >= MOST_ENTRIES {
+    if node_size + 1 >= MOST_ENTRIES {
         return false;
     }
-    if near_size + far_size + 2 <= 4 * block && near_size >= 2 * block {
+    if node_size < 4 * block && near_size >= 2 * block {
         return false;
     }
-    balanced(near_size + 2, far_size + 1)
+    balanced(near_size + 2, node_size - near_size)
 }
 
 /// Whether a node over two sides stays one with an entry less on the near side, or as many.
@@ -101,11 +97,10 @@ pub(crate) fn way_of_put<M: Shape, C: Ledger>(
     ensures one_step { steps.new ≡ steps.old + 1 }
 {
     match key.order(&node.key, steps) {
-        Ordering::Less if has_room(&node.left, size_beside(&node.left, node.size)) => Way::Left,
+        Ordering::Less if has_room(&node.left, node.size) => Way::Left,
         Ordering::Less => Way::Copy,
         Ordering::Equal => Way::Here,
-        Ordering::Greater if has_room(&node.right, size_beside(&node.right, node.size)) =>
-            Way::Right,
+        Ordering::Greater if has_room(&node.right, node.size) => Way::Right,
         Ordering::Greater => Way::Copy,
     }
 }
@@ -128,6 +123,15 @@ pub(crate) fn way_of_del<M: Shape, C: Ledger>(
     }
 }
 
+/// The height of a node over its sides as they are.
+fn height_over<M: Shape>(node: &Node<M>) -> u32
+    requires fits { length node.now.left.entries + length node.now.right.entries + 1 < 2 ^ 60 }
+    ensures value { result ≡ max node.now.left.height node.now.right.height + 1 }
+    ensures law { IsBalanced (weight node.now.left.entries) (weight node.now.right.entries) → FillsNode M.BLOCK (length node.now.left.entries) (length node.now.right.entries) → HeightLaw M.BLOCK result (length node.now.left.entries + length node.now.right.entries + 1) }
+{
+    node.left.height().max(node.right.height()) + 1
+}
+
 /// Makes the fold, the size and the height of a node anew.
 pub(crate) fn refresh<M: Shape, C: Ledger>(alloc: Global, node: &mut Node<M>, steps: &mut Steps<C>)
     requires total { M.Augment.never_refuses }
@@ -139,32 +143,33 @@ pub(crate) fn refresh<M: Shape, C: Ledger>(alloc: Global, node: &mut Node<M>, st
     else {
         unreachable!()
     };
-    let size = node.left.size() + node.right.size() + 1;
-    let height = node.left.height().max(node.right.height()) + 1;
+    let height = height_over(node);
     node.fold = fold;
-    node.size = size;
+    node.size = node.left.size() + node.right.size() + 1;
     node.height = height;
 }
 
-/// The height of a node, which it has already where that of its changed side is what it was: then neither side is looked at.
-fn height_after_put<M: Shape>(node: &Node<M>, is_same: bool) -> u32
-    requires fits { length node.now.left.entries + length node.now.right.entries + 1 < 2 ^ 60 }
-    requires same { IsTrue is_same → node.now.height ≡ max node.now.left.height node.now.right.height + 1 }
-    requires law { IsTrue is_same → HeightLaw M.BLOCK node.now.height (length node.now.left.entries + length node.now.right.entries + 1) }
-    ensures value { result ≡ max node.now.left.height node.now.right.height + 1 }
-    ensures law { IsBalanced (weight node.now.left.entries) (weight node.now.right.entries) → FillsNode M.BLOCK (length node.now.left.entries) (length node.now.right.entries) → HeightLaw M.BLOCK result (length node.now.left.entries + length node.now.right.entries + 1) }
+/// Sets the value of the entry of a node.
+pub(crate) fn put_here<M: Shape, C: Ledger>(
+    alloc: Global,
+    node: &mut Node<M>,
+    val: M::Val,
+    steps: &mut Steps<C>,
+)
+    requires total { M.Augment.never_refuses }
+    requires fits { length node.old.left.entries + length node.old.right.entries + 1 < 2 ^ 60 }
+    ensures node { IsRefreshed M.Augment.base_of M.Augment.unit_of M.Augment.combined M.BLOCK node.old.left node.old.key val node.old.right node.new }
+    ensures cost { steps.new ≤ steps.old + 2 }
 {
-    if is_same {
-        return node.height;
-    }
-    node.left.height().max(node.right.height()) + 1
+    node.val = val;
+    refresh(alloc, node, steps);
 }
 
 /// Takes the base value of a new entry into the fold of a node, and makes its size and height what they are with it.
 fn take_in<M: Shape, C: Ledger>(
     alloc: Global,
     node: &mut Node<M>,
-    is_as_high: bool,
+    height: u32,
     base: &M::Aug,
     steps: &mut Steps<C>,
 )
@@ -173,43 +178,56 @@ fn take_in<M: Shape, C: Ledger>(
     requires alike { IsCommutativeOver M.Augment.Fits M.Augment.combined }
     requires fold { NodeTakesIn M.Augment.Fits M.Augment.base_of M.Augment.unit_of M.Augment.combined node.old base.now }
     requires size { node.old.size ≡ length node.old.left.entries + length node.old.right.entries }
-    requires height { IsTrue is_as_high → node.old.height ≡ max node.old.left.height node.old.right.height + 1 }
-    requires law { IsTrue is_as_high → HeightLaw M.BLOCK node.old.height (node.old.size + 1) }
+    requires height { height ≡ max node.old.left.height node.old.right.height + 1 }
+    requires law { IsBalanced (weight node.old.left.entries) (weight node.old.right.entries) → FillsNode M.BLOCK (length node.old.left.entries) (length node.old.right.entries) → HeightLaw M.BLOCK height (length node.old.left.entries + length node.old.right.entries + 1) }
     ensures node { IsRefreshed M.Augment.base_of M.Augment.unit_of M.Augment.combined M.BLOCK node.old.left node.old.key node.old.val node.old.right node.new }
+    ensures height { node.new.height ≡ height }
     ensures cost { steps.new ≤ steps.old + 2 }
 {
     let Ok(grown) = <M::Augment>::combine(alloc, &node.fold, base, steps) else {
         unreachable!()
     };
-    let height = height_after_put(node, is_as_high);
     node.fold = grown;
     node.size += 1;
     node.height = height;
 }
 
-/// Makes the fold, the size and the height of a node anew after a put into one of its sides, whose extents before and after it are
-/// given: of what they were where the side has one entry more, which has the base value, and values combine alike in either order,
-/// and else of both sides.
+/// Makes the fold, the size and the height of a node anew after a put into one of its sides, and answers what the put did to the
+/// node of what it did to the side. Where the side has an entry more, and values combine alike in either order, they are made of
+/// what they were, and no side is looked at but where one may be higher.
 pub(crate) fn refresh_after_put<M: Shape, C: Ledger>(
     alloc: Global,
     node: &mut Node<M>,
-    before: Extent,
-    after: Extent,
+    growth: Growth,
     base: &M::Aug,
     steps: &mut Steps<C>,
-)
+) -> Growth
     requires total { M.Augment.never_refuses }
     requires fits { length node.old.left.entries + length node.old.right.entries + 1 < 2 ^ 60 }
-    requires fold { before.size < after.size → NodeTakesIn M.Augment.Fits M.Augment.base_of M.Augment.unit_of M.Augment.combined node.old base.now }
-    requires size { before.size < after.size → node.old.size ≡ length node.old.left.entries + length node.old.right.entries }
-    requires height { before.height ≡ after.height → node.old.height ≡ max node.old.left.height node.old.right.height + 1 }
+    requires fold { IsLarger growth → NodeTakesIn M.Augment.Fits M.Augment.base_of M.Augment.unit_of M.Augment.combined node.old base.now }
+    requires size { IsLarger growth → node.old.size ≡ length node.old.left.entries + length node.old.right.entries }
+    requires height { IsAsHigh growth → node.old.height ≡ max node.old.left.height node.old.right.height + 1 }
     requires law { HeightLaw M.BLOCK node.old.height (node.old.size + 1) }
     ensures node { IsRefreshed M.Augment.base_of M.Augment.unit_of M.Augment.combined M.BLOCK node.old.left node.old.key node.old.val node.old.right node.new }
+    ensures larger { IsLarger result → IsLarger growth }
+    ensures as_high { IsAsHigh result → node.new.height ≡ node.old.height }
     ensures cost { steps.new ≤ steps.old + 2 }
 {
-    if before.size < after.size && <M::Augment>::commutes() {
-        take_in(alloc, node, before.height == after.height, base, steps);
-    } else {
+    if !<M::Augment>::commutes() {
         refresh(alloc, node, steps);
+        return growth;
     }
+    match growth {
+        Growth::Same => refresh(alloc, node, steps),
+        Growth::Entry => take_in(alloc, node, node.height, base, steps),
+        Growth::Level => {
+            let height = height_over(node);
+            let is_as_high = height == node.height;
+            take_in(alloc, node, height, base, steps);
+            if is_as_high {
+                return Growth::Entry;
+            }
+        }
+    }
+    growth
 }

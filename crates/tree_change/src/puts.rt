@@ -1,16 +1,17 @@
 //! A key set to a value in place.
-ghost use Rattle.std.specs.Prelude.{◌≡◌, ◌+◌, ◌*◌, ◌≤◌, IfOk, OnErr};
+ghost use Rattle.std.specs.Prelude.{◌≡◌, ◌+◌, ◌*◌, ◌<◌, ◌≤◌, IfOk, OnErr, length};
 ghost use Rattle.map_model.specs.Entries.{set};
+ghost use Rattle.tree_change.specs.Growths.{IsAsHigh, IsLarger};
 
 use crate::blocks::put_in_own_block;
-use crate::nodes::{PartMut, Way, extent_of, refresh, refresh_after_put, way_of_put};
+use crate::nodes::{Growth, PartMut, Way, put_here, refresh_after_put, way_of_put};
 use crate::shape_mut::ShapeMut;
 use aug_monoid::{Augment, Leaf, NoMemory, Steps};
 use std::alloc::Global;
 use std::sync::Arc;
 use std::sync::ledger::Ledger;
 use tree_entry::{put, put_sought};
-use tree_shape::{Top, Tree};
+use tree_shape::{Shape, Top, Tree};
 
 /// Sets a key to a value, in O(log n + M::BLOCK) time: in place at each node and block that has one owner and keeps its shape,
 /// and from the first one on that has not, or would not, as `put` does. After a refusal the map is as it was. It takes at most
@@ -30,14 +31,16 @@ pub fn put_mut<M: ShapeMut, C: Ledger>(
         let Ok(base) = <M::Augment>::base(alloc, &key, &val) else {
             unreachable!()
         };
-        return put_in(alloc, PartMut { tree }, key, val, &base, steps);
+        put_in(alloc, PartMut { tree }, key, val, &base, steps)?;
+        return Ok(());
     }
     *tree = put(alloc, tree, key, val, steps)?;
     Ok(())
 }
 
 /// Whether a node may change in place is asked before the way down, so that nothing has changed when memory is asked for. `base` is
-/// the entry's base value, with which folds are made where values combine alike in either order.
+/// the entry's base value, with which folds are made where values combine alike in either order. The answer is what each level up
+/// has to know of what the put changed.
 fn put_in<M: ShapeMut, C: Ledger>(
     alloc: Global,
     part: PartMut<'_, M>,
@@ -45,73 +48,97 @@ fn put_in<M: ShapeMut, C: Ledger>(
     val: M::Val,
     base: &M::Aug,
     steps: &mut Steps<C>,
-) -> Result<(), NoMemory>
+) -> Result<Growth, NoMemory>
     requires total { M.Augment.never_refuses }
     requires base { base.now ≡ M.Augment.base_of key val }
     ensures entries { IfOk result (λ _. part.exit.0.now.entries ≡ set M.Key.cmp part.entry.tree.now.entries key val) }
+    ensures larger { IfOk result (λ growth. IsLarger growth → length part.entry.tree.now.entries < length part.exit.0.now.entries) }
+    ensures as_high { IfOk result (λ growth. IsAsHigh growth → part.exit.0.now.height ≡ part.entry.tree.now.height) }
     ensures kept { OnErr result (part.exit.0.now ≡ part.entry.tree.now) }
     ensures cost { steps.new ≤ steps.old + (64 * (part.entry.tree.now.height + 1) * (M.BLOCK + 2) + M.Leaf.FIND) }
 {
     let PartMut { tree } = part;
-    match &mut tree.top {
-        Top::Empty => {}
-        Top::Block(owner) => {
-            if let Some(block) = Arc::get_mut(owner) {
-                let place = block.leaf.seek(&key, steps);
-                if place.hit || block.leaf.len() < 2 * M::BLOCK as u64 {
-                    put_in_own_block(alloc, block, place, key, val, base, steps)?;
-                    return Ok(());
+    if let Top::Node(owner) = &mut tree.top {
+        if let Some(node) = Arc::get_mut(owner) {
+            match way_of_put(node, &key, steps) {
+                Way::Left => {
+                    let left = PartMut {
+                        tree: &mut node.left,
+                    };
+                    let growth = put_in(alloc, left, key, val, base, steps)?;
+                    return Ok(refresh_after_put(alloc, node, growth, base, steps));
                 }
-                let split = put_sought(alloc, &block.leaf, place, key, val, steps)?;
-                *tree = split;
-                return Ok(());
-            }
-        }
-        Top::Node(owner) => {
-            if let Some(node) = Arc::get_mut(owner) {
-                match way_of_put(node, &key, steps) {
-                    Way::Left => {
-                        let before = extent_of(&node.left);
-                        put_in(
-                            alloc,
-                            PartMut {
-                                tree: &mut node.left,
-                            },
-                            key,
-                            val,
-                            base,
-                            steps,
-                        )?;
-                        let after = extent_of(&node.left);
-                        refresh_after_put(alloc, node, before, after, base, steps);
-                        return Ok(());
-                    }
-                    Way::Here => {
-                        node.val = val;
-                        refresh(alloc, node, steps);
-                        return Ok(());
-                    }
-                    Way::Right => {
-                        let before = extent_of(&node.right);
-                        put_in(
-                            alloc,
-                            PartMut {
-                                tree: &mut node.right,
-                            },
-                            key,
-                            val,
-                            base,
-                            steps,
-                        )?;
-                        let after = extent_of(&node.right);
-                        refresh_after_put(alloc, node, before, after, base, steps);
-                        return Ok(());
-                    }
-                    Way::Copy => {}
+                Way::Here => {
+                    put_here(alloc, node, val, steps);
+                    return Ok(Growth::Same);
                 }
+                Way::Right => {
+                    let right = PartMut {
+                        tree: &mut node.right,
+                    };
+                    let growth = put_in(alloc, right, key, val, base, steps)?;
+                    return Ok(refresh_after_put(alloc, node, growth, base, steps));
+                }
+                Way::Copy => {}
             }
         }
     }
-    *tree = put(alloc, tree, key, val, steps)?;
-    Ok(())
+    put_at_end(alloc, PartMut { tree }, key, val, base, steps)
+}
+
+/// The end of a put's way down: in place in a block that has one owner and room, and else in a copy. It is no part of `put_in`, so
+/// that a level saves few registers.
+#[inline(never)]
+fn put_at_end<M: ShapeMut, C: Ledger>(
+    alloc: Global,
+    part: PartMut<'_, M>,
+    key: M::Key,
+    val: M::Val,
+    base: &M::Aug,
+    steps: &mut Steps<C>,
+) -> Result<Growth, NoMemory>
+    requires total { M.Augment.never_refuses }
+    requires base { base.now ≡ M.Augment.base_of key val }
+    ensures entries { IfOk result (λ _. part.exit.0.now.entries ≡ set M.Key.cmp part.entry.tree.now.entries key val) }
+    ensures larger { IfOk result (λ growth. IsLarger growth → length part.entry.tree.now.entries < length part.exit.0.now.entries) }
+    ensures as_high { IfOk result (λ growth. IsAsHigh growth → part.exit.0.now.height ≡ part.entry.tree.now.height) }
+    ensures kept { OnErr result (part.exit.0.now ≡ part.entry.tree.now) }
+    ensures cost { steps.new < steps.old + (64 * (part.entry.tree.now.height + 1) * (M.BLOCK + 2) + M.Leaf.FIND) }
+{
+    let PartMut { tree } = part;
+    if let Top::Block(owner) = &mut tree.top {
+        if let Some(block) = Arc::get_mut(owner) {
+            let place = block.leaf.seek(&key, steps);
+            if place.hit || block.leaf.len() < 2 * M::BLOCK as u64 {
+                return put_in_own_block(alloc, block, place, key, val, base, steps);
+            }
+            *tree = put_sought(alloc, &block.leaf, place, key, val, steps)?;
+            return Ok(Growth::Level);
+        }
+    }
+    let (copy, growth) = put_copy(alloc, tree, key, val, steps)?;
+    *tree = copy;
+    Ok(growth)
+}
+
+/// The map with a key set to a value, as `put` makes it, and what that did to its extent.
+fn put_copy<M: Shape, C: Ledger>(
+    alloc: Global,
+    tree: &Tree<M>,
+    key: M::Key,
+    val: M::Val,
+    steps: &mut Steps<C>,
+) -> Result<(Tree<M>, Growth), NoMemory>
+    ensures entries { IfOk result (λ made. made.0.entries ≡ set M.Key.cmp tree.now.entries key val) }
+    ensures larger { IfOk result (λ made. IsLarger made.1 → length tree.now.entries < length made.0.entries) }
+    ensures as_high { IfOk result (λ made. ¬ (IsAsHigh made.1)) }
+    ensures cost { steps.new < steps.old + (64 * (tree.now.height + 1) * (M.BLOCK + 2) + M.Leaf.FIND) }
+{
+    let copy = put(alloc, tree, key, val, steps)?;
+    let growth = if tree.size() < copy.size() {
+        Growth::Level
+    } else {
+        Growth::Same
+    };
+    Ok((copy, growth))
 }

@@ -1,9 +1,4 @@
-use Rattle.std.proofs.Common.{rules, ◌≡◌, ◌+◌, ◌<◌, [], ◌++◌, length, take, drop, sym, ap, ◌∙◌, arith}
-use Rattle.std.proofs.lemmas.Bool.{false_from_ne_true, false≢true, not-true, not-false}
-use Rattle.map_model.specs.Entries.{drop_key}
-use Rattle.map_model.proofs.Cuts.{drop_sizes, none_of_absent, parts_found, place_found}
-use Rattle.map_model.proofs.Splits.{IsIncreasing-drop_key, drop_key-absent, drop_key-split}
-use Rattle.tree_change.proofs.Changed.{by_outcome, nothing_left}
+use Rattle.std.proofs.Common.{rules, arith}
 use Rattle.tree_change.proofs.Costs.{level_changed}
 use Rattle.tree_change.proofs.DelNodes.{del_left_fits, del_right_fits, del_left, del_right}
 use Rattle.tree_change.proofs.Owned.{top_block, top_node, left_is_shorter, right_is_shorter, left_is_lower, right_is_lower}
@@ -101,67 +96,11 @@ returns-in-Right-clause-cost g t c =
     let level = level_changed node.right.height map.height g.M.Shape.BLOCK (right_is_lower map node own) in
     omega (arith, level, c.in_ok-del_in-in-Right.ensures.cost, c.refresh-in-Right.ensures.cost, c.in-Right.ensures.one_step)
 
-pub returns-then-not-place-clause-entries : goal.returns-then-not-place-clause-entries
-returns-then-not-place-clause-entries g t c =
-    let a = g.M.Augment.Augment in
-    let own = top_block g.M.Leaf.Leaf.entries g.M.Key.Ord.cmp a.base_of a.unit_of a.combined g.M.Shape.BLOCK c.args.part.tree.now c.in-Some.block.now c.in-Block.owner c.tree.inside.top c.in-Some.ensures.value c.in-Block.is c.tree.invariant c.tree.view_is in
-    let entries = g.M.Leaf.Leaf.entries c.in-Some.block.now.leaf in
-    let missed = not-true c.seek-place.result.hit c.if-not-place.true in
-    let absent = none_of_absent _ (false_from_ne_true _ (λ h. false≢true (sym missed ∙ c.seek-place.ensures.hit.1 h))) in
-    sym (drop_key-absent g.met.M.Key.Ord.total g.met.M.Key.Key.exact entries c.args.key.now own.shape.increasing absent) ∙ ap (λ m. drop_key g.M.Key.Ord.cmp m c.args.key.now) own.entries_are
-
-pub remove_in_own_block-requires-clause-inside : goal.remove_in_own_block-requires-clause-inside
-remove_in_own_block-requires-clause-inside g t c =
-    let a = g.M.Augment.Augment in
-    let own = top_block g.M.Leaf.Leaf.entries g.M.Key.Ord.cmp a.base_of a.unit_of a.combined g.M.Shape.BLOCK c.args.part.tree.now c.in-Some.block.now c.in-Block.owner c.tree.inside.top c.in-Some.ensures.value c.in-Block.is c.tree.invariant c.tree.view_is in
-    let entries = g.M.Leaf.Leaf.entries c.in-Some.block.now.leaf in
-    let hit = c.seek-place.ensures.hit.0 (not-false _ c.if-not-place.false) in
-    rw c.seek-place.ensures.at (place_found g.met.M.Key.Ord.total g.met.M.Key.Key.exact entries c.args.key.now own.shape.increasing hit)
-
-pub invariant_of-tree-then-len-gt1 : goal.invariant_of-tree-then-len-gt1
-invariant_of-tree-then-len-gt1 g t c =
-    let a = g.M.Augment.Augment in
-    let own = top_block g.M.Leaf.Leaf.entries g.M.Key.Ord.cmp a.base_of a.unit_of a.combined g.M.Shape.BLOCK c.args.part.tree.now c.in-Some.block.now c.in-Block.owner c.tree.inside.top c.in-Some.ensures.value c.in-Block.is c.tree.invariant c.tree.view_is in
-    let entries = g.M.Leaf.Leaf.entries c.in-Some.block.now.leaf in
-    let hit = c.seek-place.ensures.hit.0 (not-false _ c.if-not-place.false) in
-    let parts = parts_found g.met.M.Key.Ord.total g.met.M.Key.Key.exact entries c.args.key.now own.shape.increasing hit in
-    let removed : take c.seek-place.result.at entries ++ drop (c.seek-place.result.at + 1) entries ≡ drop_key g.M.Key.Ord.cmp entries c.args.key.now = rw (c.seek-place.ensures.at, parts.0, parts.1) (sym (drop_key-split g.met.M.Key.Ord.total g.met.M.Key.Key.exact entries c.args.key.now own.shape.increasing)) in
-    let sizes = drop_sizes g.met.M.Key.Ord.total g.met.M.Key.Key.exact entries c.args.key.now own.shape.increasing in
-    by_outcome c.remove_in_own_block.result c.remove_in_own_block.ensures.entries c.remove_in_own_block.ensures.fold c.remove_in_own_block.ensures.kept c.remove_in_own_block.ensures.kept_fold
-    (λ rest fold. record {
-      increasing = rw (rest, removed) (IsIncreasing-drop_key g.M.Key.Ord.cmp entries c.args.key.now own.shape.increasing);
-      some = rw (rest, removed) (omega (arith, sizes.1, c.if-len-gt1.true, c.len.ensures.value));
-      short = rw (rest, removed) (omega (arith, sizes.0, own.shape.short));
-      fold_is = fold;
-    })
-    (λ kept fold. record {
-      increasing = rw kept own.shape.increasing;
-      some = rw kept own.shape.some;
-      short = rw kept own.shape.short;
-      fold_is = rw (kept, fold) own.shape.fold_is;
-    })
-
-pub returns-then-len-gt1-clause-entries : goal.returns-then-len-gt1-clause-entries
-returns-then-len-gt1-clause-entries g t c =
-    let a = g.M.Augment.Augment in
-    let own = top_block g.M.Leaf.Leaf.entries g.M.Key.Ord.cmp a.base_of a.unit_of a.combined g.M.Shape.BLOCK c.args.part.tree.now c.in-Some.block.now c.in-Block.owner c.tree.inside.top c.in-Some.ensures.value c.in-Block.is c.tree.invariant c.tree.view_is in
-    let entries = g.M.Leaf.Leaf.entries c.in-Some.block.now.leaf in
-    let hit = c.seek-place.ensures.hit.0 (not-false _ c.if-not-place.false) in
-    let parts = parts_found g.met.M.Key.Ord.total g.met.M.Key.Key.exact entries c.args.key.now own.shape.increasing hit in
-    let removed : take c.seek-place.result.at entries ++ drop (c.seek-place.result.at + 1) entries ≡ drop_key g.M.Key.Ord.cmp entries c.args.key.now = rw (c.seek-place.ensures.at, parts.0, parts.1) (sym (drop_key-split g.met.M.Key.Ord.total g.met.M.Key.Key.exact entries c.args.key.now own.shape.increasing)) in
-    c.in_ok-remove_in_own_block-in-Block.ensures.entries ∙ removed ∙ ap (λ m. drop_key g.M.Key.Ord.cmp m c.args.key.now) own.entries_are
-
 pub invariant_of-tree : goal.invariant_of-tree
 invariant_of-tree g t c = search rules
 
 pub part_some-tree : goal.part_some-tree
 part_some-tree g t c = search rules
-
-pub invariant_of-tree-then-not-place : goal.invariant_of-tree-then-not-place
-invariant_of-tree-then-not-place g t c = search rules
-
-pub remove_in_own_block-requires-clause-total : goal.remove_in_own_block-requires-clause-total
-remove_in_own_block-requires-clause-total g t c = search rules
 
 pub part_none-tree : goal.part_none-tree
 part_none-tree g t c = search rules
@@ -204,16 +143,17 @@ pub invariant_of-drop-2 : goal.invariant_of-drop-2
 invariant_of-drop-2 g t c =
     search rules
 
-pub returns-in-Some-clause-entries : goal.returns-in-Some-clause-entries
-returns-in-Some-clause-entries g t c =
+pub del_in_own_block-requires-clause-total : goal.del_in_own_block-requires-clause-total
+del_in_own_block-requires-clause-total g t c = c.requires.total
+
+pub del_in_own_block-requires-clause-lawful : goal.del_in_own_block-requires-clause-lawful
+del_in_own_block-requires-clause-lawful g t c =
     let a = g.M.Augment.Augment in
     let own = top_block g.M.Leaf.Leaf.entries g.M.Key.Ord.cmp a.base_of a.unit_of a.combined g.M.Shape.BLOCK c.args.part.tree.now c.in-Some.block.now c.in-Block.owner c.tree.inside.top c.in-Some.ensures.value c.in-Block.is c.tree.invariant c.tree.view_is in
-    let entries = g.M.Leaf.Leaf.entries c.in-Some.block.now.leaf in
-    let hit = c.seek-place.ensures.hit.0 (not-false _ c.if-not-place.false) in
-    let at = c.seek-place.result.at in
-    let there : at < length entries = rw c.seek-place.ensures.at (place_found g.met.M.Key.Ord.total g.met.M.Key.Key.exact entries c.args.key.now own.shape.increasing hit) in
-    let parts = parts_found g.met.M.Key.Ord.total g.met.M.Key.Key.exact entries c.args.key.now own.shape.increasing hit in
-    let removed : take at entries ++ drop (at + 1) entries ≡ drop_key g.M.Key.Ord.cmp entries c.args.key.now = rw (c.seek-place.ensures.at, parts.0, parts.1) (sym (drop_key-split g.met.M.Key.Ord.total g.met.M.Key.Key.exact entries c.args.key.now own.shape.increasing)) in
-    let none = nothing_left entries at there (omega (arith, c.if-len-gt1.false, c.len.ensures.value)) in
-    let gone : [] ≡ drop_key g.M.Key.Ord.cmp c.args.part.tree.now.entries c.args.key.now = sym none ∙ removed ∙ ap (λ m. drop_key g.M.Key.Ord.cmp m c.args.key.now) own.entries_are in
-    ap (λ v. v.entries) (c.drop.view_is ∙ c.empty.ensures) ∙ gone
+    own.shape
+
+pub invariant_of-tree-in-Break-1 : goal.invariant_of-tree-in-Break-1
+invariant_of-tree-in-Break-1 g t c = c.del_in_own_block.ensures.lawful
+
+pub invariant_of-tree-then-not-branch : goal.invariant_of-tree-then-not-branch
+invariant_of-tree-then-not-branch g t c = c.del_in_own_block.ensures.lawful

@@ -12,6 +12,6 @@ returns-clause-node g c =
       right_is = refl;
       fold_is = c.in-Ok.ensures.value ∙ c.requires.fold c.requires.alike;
       size_is = size_is;
-      height_is = c.height_after_put-height.ensures.value;
-      law = λ balanced filled. rw size_is (c.height_after_put-height.ensures.law balanced filled);
+      height_is = c.requires.height;
+      law = λ balanced filled. rw size_is (c.requires.law balanced filled);
     }

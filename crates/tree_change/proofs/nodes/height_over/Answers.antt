@@ -1,6 +1,6 @@
 use Rattle.std.proofs.Common.{◌≡◌, ◌+◌, max, length, arith}
 use Rattle.map_model.proofs.Heights.{height_small, node_law}
-use Rattle.tree_change.proofs.nodes.height_after_put.Goals as goal
+use Rattle.tree_change.proofs.nodes.height_over.Goals as goal
 
 pub overflow_add-result : goal.overflow_add-result
 overflow_add-result g c =
