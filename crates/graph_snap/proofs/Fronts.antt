@@ -51,7 +51,7 @@ any-elements : {K : Type 0} (p : K → Bool) (ks : List K) → list_any (λ e. p
 any-elements p [] = refl
 any-elements p (k ∷ ks) = ap (λ b. p k || b) (any-elements p ks)
 
-any_agree : {X : Type 0} (p q : X → Bool) → ((x : X) → p x ≡ q x) → (xs : List X) → list_any p xs ≡ list_any q xs
+pub any_agree : {X : Type 0} (p q : X → Bool) → ((x : X) → p x ≡ q x) → (xs : List X) → list_any p xs ≡ list_any q xs
 any_agree p q same [] = refl
 any_agree p q same (x ∷ xs) = ap₂ (λ a b. a || b) (same x) (any_agree p q same xs)
 
@@ -76,13 +76,13 @@ module _ (sets : Sets) where
       ∙ is_some-or (lookup nat_cmp (set_at sets e.0) v) (lookup nat_cmp (gathered front) v)
       ∙ ap₂ (λ a b. a || b) (ap is_some (found-set_at sets e.0 e.0 v (tied_itself nat_cmp_total e.0))) (found-gathered front v)
 
-  found-neighbours : (front : List (ℕ × ℕ)) (v : ℕ) → is_some (lookup nat_cmp (neighbours_of sets front) v) ≡ list_any (λ e. is_some (edge_in sets e.0 v)) front
+  pub found-neighbours : (front : List (ℕ × ℕ)) (v : ℕ) → is_some (lookup nat_cmp (neighbours_of sets front) v) ≡ list_any (λ e. is_some (edge_in sets e.0 v)) front
   found-neighbours front v =
       ap is_some (lookup-after_puts nat_cmp_total nat_exact (gathered front) [] v ∙ option_or-none (last_at nat_cmp (gathered front) v) ∙ last-element nat_cmp (gathered front) v)
       ∙ found-gathered front v
 
   -- they are where an edge leads from the front
-  neighbours-edges : (front : List (ℕ × ℕ)) (v : ℕ) → IsIncreasing nat_cmp sets → is_some (lookup nat_cmp (neighbours_of sets front) v) ≡ list_any (λ e. e.1 == v && is_some (lookup nat_cmp front e.0)) (edges_of sets)
+  pub neighbours-edges : (front : List (ℕ × ℕ)) (v : ℕ) → IsIncreasing nat_cmp sets → is_some (lookup nat_cmp (neighbours_of sets front) v) ≡ list_any (λ e. e.1 == v && is_some (lookup nat_cmp front e.0)) (edges_of sets)
   neighbours-edges front v rises =
       let leads : ℕ × ℕ → Bool = λ e. e.1 == v && is_some (lookup nat_cmp front e.0) in
       let near : ℕ → Bool = λ u. is_some (edge_in sets u v) in

@@ -114,7 +114,7 @@ module _ (g : List (ℕ × ℕ)) (s : ℕ) where
   abbrev pub level : ℕ → ℕ → Bool
   level d v = is_none (least (walk g s v) d) && walk g s v d
 
-  level_test : (d v : ℕ) → AtLevel d v → level d v ≡ true
+  pub level_test : (d v : ℕ) → AtLevel d v → level d v ≡ true
   level_test d v at = rw (at.no_less, at.walks) refl
 
   pub at_level : (d v : ℕ) → level d v ≡ true → AtLevel d v

@@ -11,3 +11,4 @@ pub mod Listed
 pub mod Elements
 pub mod Within
 pub mod Turned
+pub mod Paths

@@ -1,8 +1,8 @@
 -- Sets of vertices, merged.
-use Rattle.std.specs.Prelude.{◌≡◌, [], ◌∷◌, ℕ, List, map}
+use Rattle.std.specs.Prelude.{◌≡◌, [], ◌∷◌, ℕ, Bool, List, is_some, map}
 use Rattle.std.specs.List.{flat_map}
 use Rattle.std.specs.Ordering.{nat_cmp}
-use Rattle.map_model.specs.Entries.{set}
+use Rattle.map_model.specs.Entries.{lookup, set}
 use Rattle.map_model.specs.Operations.{build}
 use Rattle.map_model.specs.SetOperations.{difference, union}
 use Rattle.graph_snap.specs.Edges.{Sets, set_at}
@@ -29,3 +29,7 @@ at_distance d near = map (λ e. (e.0, d)) near
 -- the vertices that an edge leads to from a front and that were not found before, with their distance
 abbrev pub next_front : Sets → List (ℕ × ℕ) → List (ℕ × ℕ) → ℕ → List (ℕ × ℕ)
 next_front sets front found d = difference nat_cmp (at_distance d (neighbours_of sets front)) found
+
+-- whether an edge leads from u to v
+abbrev pub leads : Sets → ℕ → ℕ → Bool
+leads sets u v = is_some (lookup nat_cmp (set_at sets u) v)

@@ -1,12 +1,13 @@
 //! Graphs, which no call changes.
-ghost use Rattle.std.specs.Prelude.{◌≡◌, ◌↔◌, [], Contains, length, IfOk, IsTrue};
+ghost use Rattle.std.specs.Prelude.{◌≡◌, ◌↔◌, [], Contains, length, IfOk, IsTrue, MatchOption};
 ghost use Rattle.graph_snap.specs.Edges.{AreSets, IsGraph, IsReverse, edges_of, out_neighbours, pairs_of};
 ghost use Rattle.graph_snap.specs.Edges.{reversed, sources, with_edges, without_edges};
-ghost use Rattle.graph_snap.specs.Walks.{HasDistances, reach, reach_within};
+ghost use Rattle.graph_snap.specs.Walks.{HasDistances, IsLeastPath, IsOutOfReach, reach, reach_within};
 
 use crate::batch::{sets_of, turned_sets};
 use crate::counting::edges_in;
 use crate::edge::{Edge, Reached};
+use crate::least_path::least_path;
 use crate::listing::edge_list;
 use crate::search::search;
 use crate::search_alone::search_within;
@@ -228,5 +229,14 @@ impl Graph {
         ensures { IfOk result (λ found. found.items ≡ reach_within self.now from most) }
     {
         search_within(alloc, &self.vertices, from, most)
+    }
+
+    /// The vertices of a walk from `from` to `to` with the least number of edges, both ends included; none where no walk leads
+    /// there. It is the search of `within` as far as `to`, which keeps its fronts, and then a way back through them that looks for
+    /// an edge from each vertex at most once. O(m * log(n * m)) for m edges from what is reached, and n vertices.
+    pub fn path(&self, alloc: Global, from: u64, to: u64) -> Result<Option<Vec<u64>>, NoMemory>
+        ensures { IfOk result (λ found. MatchOption found (IsOutOfReach self.now from to) (λ path. IsLeastPath self.now from to path.items)) }
+    {
+        least_path(alloc, &self.vertices, from, to)
     }
 }

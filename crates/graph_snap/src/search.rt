@@ -180,8 +180,8 @@ pub(crate) fn listed(alloc: Global, found: &Distances) -> Result<Vec<Reached>, N
     Ok(list)
 }
 
-// The next distance; that there is none is want of memory, since a graph has an edge for each.
-fn further(distance: u64) -> Result<u64, NoMemory>
+/// The next distance; that there is none is want of memory, since a graph has an edge for each.
+pub(crate) fn further(distance: u64) -> Result<u64, NoMemory>
     ensures { IfOk result (λ more. more ≡ distance + 1) }
 {
     match distance.checked_add(1) {

@@ -58,8 +58,8 @@ fn not_found_alone(
     }
 }
 
-// The vertices that an edge leads to from a front and that were not found before.
-fn next_front_alone(
+/// The vertices that an edge leads to from a front and that were not found before.
+pub(crate) fn next_front_alone(
     alloc: Global,
     vertices: &Vertices,
     front: &[(u64, u64)],

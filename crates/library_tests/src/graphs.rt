@@ -134,6 +134,73 @@ fn a_search_that_stops_at_a_distance(rt: HostRuntime) {
     assert_within(&rt, alloc, &graph, 9, 3, &[(9, 0)]);
 }
 
+/// Asserts what the vertices of a walk of least length are.
+fn assert_path<R: Abort>(rt: &R, alloc: Global, graph: &Graph, from: u64, to: u64, wanted: &[u64]) {
+    let found = graph.path(alloc, from, to).expect(rt, "memory");
+    let path = found.expect(rt, "a path");
+    assert_eq!(rt; path.as_slice(), wanted);
+}
+
+#[test]
+fn a_path_by_the_shortest_way(rt: HostRuntime) {
+    let alloc = rt.alloc();
+    let all = graph_of(&rt, alloc, WAYS, &[]);
+    assert_path(&rt, alloc, &all, 1, 5, &[1, 4, 5]);
+    assert_path(&rt, alloc, &all, 5, 3, &[5, 1, 2, 3]);
+    assert_path(&rt, alloc, &all, 7, 8, &[7, 8]);
+    let left = graph_of(&rt, alloc, WAYS, &[(1, 4)]);
+    assert_path(&rt, alloc, &left, 1, 5, &[1, 2, 3, 4, 5]);
+}
+
+#[test]
+fn a_path_from_a_vertex_to_itself(rt: HostRuntime) {
+    let alloc = rt.alloc();
+    assert_path(&rt, alloc, &graph_of(&rt, alloc, &ADDED, &[]), 3, 3, &[3]);
+    assert_path(&rt, alloc, &graph_of(&rt, alloc, WAYS, &[]), 1, 1, &[1]);
+    assert_path(&rt, alloc, &Graph::new(), 9, 9, &[9]);
+}
+
+/// Whether a walk leads from a vertex to another.
+fn leads<R: Abort>(rt: &R, alloc: Global, graph: &Graph, from: u64, to: u64) -> bool {
+    let found = graph.path(alloc, from, to).expect(rt, "memory");
+    found.is_some()
+}
+
+#[test]
+fn no_path_where_no_walk_leads(rt: HostRuntime) {
+    let alloc = rt.alloc();
+    let graph = graph_of(&rt, alloc, WAYS, &[]);
+    assert_eq!(rt; leads(&rt, alloc, &graph, 1, 8), false);
+    assert_eq!(rt; leads(&rt, alloc, &graph, 8, 7), false);
+    assert_eq!(rt; leads(&rt, alloc, &graph, 1, 9), false);
+    assert_eq!(rt; leads(&rt, alloc, &graph, 9, 1), false);
+    assert_eq!(rt; leads(&rt, alloc, &graph, 2, 1), true);
+}
+
+/// Edges that lead from 0 on to `length`, one vertex after another.
+fn chain<R: Abort>(rt: &R, alloc: Global, length: u64) -> Vec<Edge> {
+    let mut list = Vec::new(alloc);
+    for to in 1..length.saturating_add(1) {
+        let from = to.saturating_sub(1);
+        list.push(Edge { from, to }).expect(rt, "memory");
+    }
+    list
+}
+
+// Where each search went on to the end, they would take minutes, and a test has one.
+#[test]
+fn a_search_that_stops_goes_no_further(rt: HostRuntime) {
+    let alloc = rt.alloc();
+    let list = chain(&rt, alloc, 50_000);
+    let cut = Cut::new(2, 1024);
+    let graph = Graph::new()
+        .add_edges(&rt, alloc, &FreeGate, cut, &list)
+        .expect(&rt, "memory");
+    for _time in 0..5_000u64 {
+        assert_within(&rt, alloc, &graph, 7, 2, &[(7, 0), (8, 1), (9, 2)]);
+    }
+}
+
 /// The edges of the graph of `ADDED`, each turned round, in order.
 const TURNED: &[(u64, u64)] = &[(1, 1), (1, 2), (2, 1), (3, 3), (4, 2)];
 
