@@ -1,6 +1,8 @@
 -- What it costs to combine two maps.
-use Rattle.std.specs.Prelude.{ℕ, zero, suc, ◌+◌, ◌*◌, ◌^◌, ◌<◌, min, leb, length, Bool, if◌then◌else◌}
+use Rattle.std.specs.Prelude.{ℕ, zero, suc, ◌+◌, ◌*◌, ◌^◌, ◌<◌, ◌≤◌, min, leb, length, Bool, if◌then◌else◌}
 use Rattle.map_model.specs.Contents.{Contents}
+use Rattle.fork_join.specs.declared.work.Opened.{Opened}
+use Rattle.fork_join.specs.Openings.{left_to_do}
 use Rattle.tree_make.specs.Costs.{join_cost}
 
 -- how many numbers from 0 on pass one after another, of the first n
@@ -26,6 +28,10 @@ pair_bound block find pair = combine_bound block find (length pair.0.entries) (l
 
 abbrev pub pair_closing : {K V : Type 0} → ℕ → Contents K V × Contents K V → ℕ
 pair_closing block pair = join_cost block (levels (length pair.0.entries + length pair.1.entries + 2))
+
+-- an opening of a pair of maps from some steps to others, which leaves for the halves and their join what they may take
+abbrev pub IsOpenedWithin : {K V D T : Type 0} → ℕ → ℕ → Contents K V × Contents K V → ℕ → ℕ → Opened (Contents K V × Contents K V) D T → Type 0
+IsOpenedWithin block find pair before after opened = after + left_to_do (pair_bound block find) (pair_closing block pair) opened ≤ before + pair_bound block find pair
 
 -- lessened by an eighth so often, less than 1 is left of a weight
 abbrev pub IsDeepEnough : ℕ → ℕ → Type 0

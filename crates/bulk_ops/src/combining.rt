@@ -4,10 +4,9 @@ ghost use Rattle.std.specs.Option.{option_map};
 ghost use Rattle.map_model.specs.Entries.{lookup, below, above, IsIncreasing};
 ghost use Rattle.map_model.specs.Balance.{IsAtMostLevels, IsBlockSize, weight};
 ghost use Rattle.tree_shape.specs.Shape.{link_cost};
-ghost use Rattle.fork_join.specs.Openings.{left_to_do};
 ghost use Rattle.bulk_passes.specs.Answers.{IsAnswer, IsPutTogether};
 ghost use Rattle.bulk_ops.specs.Combination.{IsPairOpened, combined_entries, entry_at, entry_count};
-ghost use Rattle.bulk_ops.specs.Costs.{step_cost, pair_bound, pair_closing};
+ghost use Rattle.bulk_ops.specs.Costs.{IsOpenedWithin, pair_bound, pair_closing, step_cost};
 
 use crate::combination::Combination;
 use crate::exchanged::Exchanged;
@@ -28,8 +27,8 @@ use tree_shape::{Look, Shape, Tree};
 /// The greater map's root splits the lesser map, and what is made of the two halves is joined around what stays at the root's key; a
 /// side that is empty ends it at once, with the other or with nothing. Two small maps of like sizes are combined as slices, and of a
 /// map beside few entries only the paths to these are copied. `divide` combines the halves side by side where the cut allows it, and
-/// `divide_alone` does all on one thread, asking of values and of `how` nothing about threads. For maps of m and n entries, m at most
-/// n, O(m * log(n / m + 1)) work. It refuses only for want of memory.
+/// `divide_alone` does all on one thread, asking of values and of `how` nothing about threads. PAM gives O(m * log(n / m + 1)) work for
+/// maps of m and n entries, m at most n; what is proved is the bound of `combine_counted`. It refuses only for want of memory.
 #[derive(Drop)]
 pub struct Combining<'a, W> {
     pub how: &'a W,
@@ -93,7 +92,7 @@ fn open_sides<M: Shape, W: Combination<M::Key, M::Val>, C: Ledger>(
     steps: &mut Steps<C>,
 ) -> Result<Opened<(Tree<M>, Tree<M>), Option<(M::Key, M::Val)>, Tree<M>>, NoMemory>
     ensures opened { IfOk result (IsPairOpened M.Key.cmp (W.combined how.now) (a, b)) }
-    ensures cost { IfOk result (λ opened. steps.new + left_to_do (pair_bound M.BLOCK M.Leaf.FIND) (pair_closing M.BLOCK (a, b)) opened ≤ steps.old + pair_bound M.BLOCK M.Leaf.FIND (a, b)) }
+    ensures cost { IfOk result (IsOpenedWithin M.BLOCK M.Leaf.FIND (a, b) steps.old steps.new) }
 {
     let first = a.size();
     let second = b.size();
@@ -117,7 +116,7 @@ fn open_both<M: Shape, W: Combination<M::Key, M::Val>, C: Ledger>(
     requires first { 0 < length a.now.entries }
     requires second { 0 < length b.now.entries }
     ensures opened { IfOk result (IsPairOpened M.Key.cmp (W.combined how.now) (a.now, b.now)) }
-    ensures cost { IfOk result (λ opened. steps.new + left_to_do (pair_bound M.BLOCK M.Leaf.FIND) (pair_closing M.BLOCK (a.now, b.now)) opened ≤ steps.old + pair_bound M.BLOCK M.Leaf.FIND (a.now, b.now)) }
+    ensures cost { IfOk result (IsOpenedWithin M.BLOCK M.Leaf.FIND (a.now, b.now) steps.old steps.new) }
 {
     let first = a.size();
     let second = b.size();
@@ -258,7 +257,7 @@ fn cut_first<M: Shape, W: Combination<M::Key, M::Val>, C: Ledger>(
     requires greater { length b.now.entries ≤ length a.now.entries }
     requires many { 2 * M.BLOCK < length a.now.entries }
     ensures opened { IfOk result (IsPairOpened M.Key.cmp (W.combined how.now) (a.now, b.now)) }
-    ensures cost { IfOk result (λ opened. steps.new + left_to_do (pair_bound M.BLOCK M.Leaf.FIND) (pair_closing M.BLOCK (a.now, b.now)) opened ≤ steps.old + pair_bound M.BLOCK M.Leaf.FIND (a.now, b.now)) }
+    ensures cost { IfOk result (IsOpenedWithin M.BLOCK M.Leaf.FIND (a.now, b.now) steps.old steps.new) }
 {
     let _height = b.height(); // for the proof alone: its law
     match a.look() {
@@ -290,7 +289,7 @@ fn cut_second<M: Shape, W: Combination<M::Key, M::Val>, C: Ledger>(
     requires greater { length a.now.entries ≤ length b.now.entries }
     requires many { 2 * M.BLOCK < length b.now.entries }
     ensures opened { IfOk result (IsPairOpened M.Key.cmp (W.combined how.now) (a.now, b.now)) }
-    ensures cost { IfOk result (λ opened. steps.new + left_to_do (pair_bound M.BLOCK M.Leaf.FIND) (pair_closing M.BLOCK (a.now, b.now)) opened ≤ steps.old + pair_bound M.BLOCK M.Leaf.FIND (a.now, b.now)) }
+    ensures cost { IfOk result (IsOpenedWithin M.BLOCK M.Leaf.FIND (a.now, b.now) steps.old steps.new) }
 {
     match cut_first(alloc, &Exchanged { how }, b, a, steps)? {
         Opened::Done(tree) => Ok(Opened::Done(tree)),
