@@ -6,7 +6,6 @@ use aug_monoid::{Key, Leaf, NoMemory, Share, Steps};
 use std::alloc::Global;
 use std::cmp::Ordering;
 use std::sync::ledger::Ledger;
-use tree_join::Part;
 use tree_shape::{Look, Shape, Tree};
 
 /// The value at a key, if it is there. At most `height + M::Leaf::FIND` steps. It takes no memory where the shares of keys and
@@ -21,32 +20,23 @@ pub fn get<M: Shape, C: Ledger>(
     ensures succeeds { M.Key.never_refuses → M.Val.never_refuses → IsOk result }
     ensures cost { steps.new ≤ steps.old + (tree.now.height + M.Leaf.FIND) }
 {
-    get_in(alloc, Part { tree }, key, steps)
-}
-
-fn get_in<M: Shape, C: Ledger>(
-    alloc: Global,
-    part: Part<'_, M>,
-    key: &M::Key,
-    steps: &mut Steps<C>,
-) -> Result<Option<M::Val>, NoMemory>
-    ensures value { IfOk result (λ val. val ≡ lookup M.Key.cmp part.entry.tree.now.entries key.now) }
-    ensures succeeds { M.Key.never_refuses → M.Val.never_refuses → IsOk result }
-    ensures cost { steps.new ≤ steps.old + (part.entry.tree.now.height + M.Leaf.FIND) }
-{
-    match part.tree.look() {
-        Look::Empty => Ok(None),
-        Look::Block { leaf } => get_in_leaf(alloc, leaf, key, steps),
-        Look::Node {
-            left,
-            key: node_key,
-            val: node_val,
-            right,
-        } => match key.order(node_key, steps) {
-            Ordering::Less => get_in(alloc, Part { tree: left }, key, steps),
-            Ordering::Equal => Ok(Some(node_val.share(alloc)?)),
-            Ordering::Greater => get_in(alloc, Part { tree: right }, key, steps),
-        },
+    // A loop, since a recursion would hand the value up again through each level.
+    let mut part = tree;
+    'down: loop {
+        match part.look() {
+            Look::Empty => return Ok(None),
+            Look::Block { leaf } => return get_in_leaf(alloc, leaf, key, steps),
+            Look::Node {
+                left,
+                key: node_key,
+                val: node_val,
+                right,
+            } => match key.order(node_key, steps) {
+                Ordering::Less => part = left,
+                Ordering::Equal => return Ok(Some(node_val.share(alloc)?)),
+                Ordering::Greater => part = right,
+            },
+        }
     }
 }
 

@@ -4,3 +4,4 @@ pub mod Nodes
 pub mod Ranges
 pub mod Sides
 pub mod Walks
+mod Near

@@ -1,6 +1,7 @@
 //! The entries nearest to a key.
 ghost use Rattle.std.specs.Prelude.{◌≡◌, ◌+◌, ◌≤◌, None, IfOk, IsOk, length};
 ghost use Rattle.std.specs.List.{last_or};
+ghost use Rattle.std.specs.Option.{option_map, option_or};
 ghost use Rattle.map_model.specs.Entries.{IsIncreasing};
 ghost use Rattle.map_model.specs.Parts.{next, prev};
 
@@ -9,7 +10,6 @@ use aug_monoid::{Key, Leaf, NoMemory, Share, Steps, owned, share_entry};
 use std::alloc::Global;
 use std::cmp::Ordering;
 use std::sync::ledger::Ledger;
-use tree_join::Part;
 use tree_shape::{Look, Shape, Tree};
 
 /// The entry with the least key greater than `key`; none exactly where no key is greater. At most `height + M::Leaf::FIND`
@@ -24,35 +24,33 @@ pub fn next<M: Shape, C: Ledger>(
     ensures succeeds { M.Key.never_refuses → M.Val.never_refuses → IsOk result }
     ensures cost { steps.new ≤ steps.old + (tree.now.height + M.Leaf.FIND) }
 {
-    next_in(alloc, Part { tree }, key, steps)
-}
-
-fn next_in<M: Shape, C: Ledger>(
-    alloc: Global,
-    part: Part<'_, M>,
-    key: &M::Key,
-    steps: &mut Steps<C>,
-) -> Result<Option<(M::Key, M::Val)>, NoMemory>
-    ensures value { IfOk result (λ entry. entry ≡ next M.Key.cmp part.entry.tree.now.entries key.now) }
-    ensures succeeds { M.Key.never_refuses → M.Val.never_refuses → IsOk result }
-    ensures cost { steps.new ≤ steps.old + (part.entry.tree.now.height + M.Leaf.FIND) }
-{
-    match part.tree.look() {
-        Look::Empty => Ok(None),
-        Look::Block { leaf } => next_in_block(alloc, leaf, key, steps),
-        Look::Node {
-            left,
-            key: middle,
-            val,
-            right,
-        } => match key.order(middle, steps) {
-            Ordering::Less => match next_in(alloc, Part { tree: left }, key, steps)? {
-                Some(entry) => Ok(Some(entry)),
-                None => Ok(Some(share_entry(alloc, middle, val)?)),
+    // A loop, since a recursion would hand the entry up again through each level.
+    let mut part = tree;
+    let mut near = None;
+    'down: loop {
+        match part.look() {
+            Look::Empty => return or_near(alloc, None, near),
+            Look::Block { leaf } => {
+                let found = next_in_block(alloc, leaf, key, steps)?;
+                return or_near(alloc, found, near);
+            }
+            Look::Node {
+                left,
+                key: middle,
+                val,
+                right,
+            } => match key.order(middle, steps) {
+                Ordering::Less => {
+                    near = Some((middle, val));
+                    part = left;
+                }
+                Ordering::Equal => {
+                    let found = select(alloc, right, 0)?;
+                    return or_near(alloc, found, near);
+                }
+                Ordering::Greater => part = right,
             },
-            Ordering::Equal => select(alloc, right, 0),
-            Ordering::Greater => next_in(alloc, Part { tree: right }, key, steps),
-        },
+        }
     }
 }
 
@@ -68,35 +66,49 @@ pub fn prev<M: Shape, C: Ledger>(
     ensures succeeds { M.Key.never_refuses → M.Val.never_refuses → IsOk result }
     ensures cost { steps.new ≤ steps.old + (tree.now.height + M.Leaf.FIND) }
 {
-    prev_in(alloc, Part { tree }, key, steps)
+    // A loop, since a recursion would hand the entry up again through each level.
+    let mut part = tree;
+    let mut near = None;
+    'down: loop {
+        match part.look() {
+            Look::Empty => return or_near(alloc, None, near),
+            Look::Block { leaf } => {
+                let found = prev_in_block(alloc, leaf, key, steps)?;
+                return or_near(alloc, found, near);
+            }
+            Look::Node {
+                left,
+                key: middle,
+                val,
+                right,
+            } => match key.order(middle, steps) {
+                Ordering::Less => part = left,
+                Ordering::Equal => {
+                    let found = last(alloc, left)?;
+                    return or_near(alloc, found, near);
+                }
+                Ordering::Greater => {
+                    near = Some((middle, val));
+                    part = right;
+                }
+            },
+        }
+    }
 }
 
-fn prev_in<M: Shape, C: Ledger>(
+/// The entry that was found, or else the nearest one on the way.
+fn or_near<K: Share, V: Share>(
     alloc: Global,
-    part: Part<'_, M>,
-    key: &M::Key,
-    steps: &mut Steps<C>,
-) -> Result<Option<(M::Key, M::Val)>, NoMemory>
-    ensures value { IfOk result (λ entry. entry ≡ prev M.Key.cmp part.entry.tree.now.entries key.now) }
-    ensures succeeds { M.Key.never_refuses → M.Val.never_refuses → IsOk result }
-    ensures cost { steps.new ≤ steps.old + (part.entry.tree.now.height + M.Leaf.FIND) }
+    found: Option<(K, V)>,
+    near: Option<(&K, &V)>,
+) -> Result<Option<(K, V)>, NoMemory>
+    ensures value { IfOk result (λ entry. entry ≡ option_or found (option_map (λ e. (e.0.now, e.1.now)) near.entry)) }
+    ensures succeeds { K.never_refuses → V.never_refuses → IsOk result }
 {
-    match part.tree.look() {
-        Look::Empty => Ok(None),
-        Look::Block { leaf } => prev_in_block(alloc, leaf, key, steps),
-        Look::Node {
-            left,
-            key: middle,
-            val,
-            right,
-        } => match key.order(middle, steps) {
-            Ordering::Less => prev_in(alloc, Part { tree: left }, key, steps),
-            Ordering::Equal => last(alloc, left),
-            Ordering::Greater => match prev_in(alloc, Part { tree: right }, key, steps)? {
-                Some(entry) => Ok(Some(entry)),
-                None => Ok(Some(share_entry(alloc, middle, val)?)),
-            },
-        },
+    match (found, near) {
+        (Some(entry), _) => Ok(Some(entry)),
+        (None, Some((key, val))) => Ok(Some(share_entry(alloc, key, val)?)),
+        (None, None) => Ok(None),
     }
 }
 

@@ -50,22 +50,28 @@ pub fn select<M: Shape>(
     ensures value { IfOk result (λ entry. entry ≡ select tree.now.entries at) }
     ensures succeeds { M.Key.never_refuses → M.Val.never_refuses → IsOk result }
 {
-    match tree.look() {
-        Look::Empty => Ok(None),
-        Look::Block { leaf } => owned(alloc, leaf.get_at(at)),
-        Look::Node {
-            left,
-            key,
-            val,
-            right,
-        } => {
-            let before = left.size();
-            if at < before {
-                select(alloc, left, at)
-            } else if at == before {
-                Ok(Some(share_entry(alloc, key, val)?))
-            } else {
-                select(alloc, right, at - before - 1)
+    // A loop, since a recursion would hand the entry up again through each level.
+    let mut part = tree;
+    let mut at_in = at;
+    'down: loop {
+        match part.look() {
+            Look::Empty => return Ok(None),
+            Look::Block { leaf } => return owned(alloc, leaf.get_at(at_in)),
+            Look::Node {
+                left,
+                key,
+                val,
+                right,
+            } => {
+                let before = left.size();
+                if at_in < before {
+                    part = left;
+                } else if at_in == before {
+                    return Ok(Some(share_entry(alloc, key, val)?));
+                } else {
+                    part = right;
+                    at_in -= before + 1;
+                }
             }
         }
     }

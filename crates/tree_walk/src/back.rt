@@ -44,7 +44,7 @@ fn take_from_root<'a, M: Shape>(
     ensures succeeds { M.Key.never_refuses → M.Val.never_refuses → IsOk result }
     ensures back { IsBackPlace M.Leaf.entries (take at tree.now.entries) back.new }
 {
-    match find_seat(tree, at, None) {
+    match find_seat(tree, at) {
         Seat::Entry { key, val } => {
             *back = None;
             share_entry(alloc, key, val)

@@ -118,7 +118,7 @@ fn take_from_root<'a, M: Shape>(
     ensures succeeds { M.Key.never_refuses → M.Val.never_refuses → IsOk result }
     ensures place { IsPlace M.Leaf.entries M.Leaf.fits_walk (drop (at + 1) tree.now.entries) place.new }
 {
-    match find_seat(tree, at, None) {
+    match find_seat(tree, at) {
         Seat::Entry { key, val } => {
             *place = None;
             share_entry(alloc, key, val)

@@ -1,7 +1,7 @@
 //! Where an entry stands in a tree.
 ghost use Rattle.std.specs.Prelude.{◌≡◌, ◌+◌, ◌<◌, ◌++◌, List, length, drop, take, slice_get, IfSome};
 ghost use Rattle.std.specs.Ordering.{is_eq};
-ghost use Rattle.tree_walk.specs.Seats.{IsSeat, IsSeatBehind, led_by};
+ghost use Rattle.tree_walk.specs.Seats.{IsSeat, IsSeatBehind};
 
 use aug_monoid::{Key, Leaf, Steps};
 use std::sync::ledger::Ledger;
@@ -22,36 +22,45 @@ pub(crate) enum Seat<'a, K, V, L> {
     },
 }
 
-/// Where the entry behind the first `at` entries stands, in a tree that an entry may follow.
+/// Where the entry behind the first `at` entries stands.
+// It goes down in a loop, since a recursion would hand the seat up again through each level.
 pub(crate) fn find_seat<'a, M: Shape>(
     tree: &'a Tree<M>,
     at: u64,
-    after: Option<(&'a M::Key, &'a M::Val)>,
 ) -> Seat<'a, M::Key, M::Val, M::Leaf>
     requires { at < length tree.now.entries }
-    ensures ahead { (more : List (M.Key × M.Val)) → IsSeat M.Leaf.entries (drop at tree.now.entries ++ led_by after.entry more) result }
+    ensures ahead { (more : List (M.Key × M.Val)) → IsSeat M.Leaf.entries (drop at tree.now.entries ++ more) result }
     ensures behind { IsSeatBehind M.Leaf.entries (take at tree.now.entries) result }
 {
-    match tree.look() {
-        Look::Empty => unreachable!(),
-        Look::Block { leaf } => Seat::Inside {
-            leaf,
-            at,
-            next: after,
-        },
-        Look::Node {
-            left,
-            key,
-            val,
-            right,
-        } => {
-            let before = left.size();
-            if at < before {
-                find_seat(left, at, Some((key, val)))
-            } else if at == before {
-                Seat::Entry { key, val }
-            } else {
-                find_seat(right, at - before - 1, after)
+    let mut part = tree;
+    let mut at_in = at;
+    let mut next = None;
+    'down: loop {
+        match part.look() {
+            Look::Empty => unreachable!(),
+            Look::Block { leaf } => {
+                return Seat::Inside {
+                    leaf,
+                    at: at_in,
+                    next,
+                };
+            }
+            Look::Node {
+                left,
+                key,
+                val,
+                right,
+            } => {
+                let before = left.size();
+                if at_in < before {
+                    part = left;
+                    next = Some((key, val));
+                } else if at_in == before {
+                    return Seat::Entry { key, val };
+                } else {
+                    part = right;
+                    at_in -= before + 1;
+                }
             }
         }
     }
@@ -68,7 +77,7 @@ pub fn is_key_at<M: Shape, C: Ledger>(
     ensures value { IfSome (slice_get tree.now.entries at) (λ e. result ≡ is_eq (M.Key.cmp e.0 key.now)) }
     ensures cost { steps.new ≡ steps.old + 1 }
 {
-    match find_seat(tree, at, None) {
+    match find_seat(tree, at) {
         Seat::Entry { key: there, .. } => there.order(key, steps).is_eq(),
         Seat::Inside { leaf, at, .. } => match leaf.get_at(at) {
             Some(entry) => entry.key().order(key, steps).is_eq(),
