@@ -1,2 +1,3 @@
 mod Batches
+mod FrontPairs
 mod KeySets

@@ -3,7 +3,7 @@ ghost use Rattle.std.specs.Prelude.{◌≡◌, length};
 ghost use Rattle.std.specs.List.Sorted.{IsPermutation, IsSortedByKey};
 ghost use Rattle.map_model.specs.Operations.{build};
 
-use crate::pairs::keep_first_of_each;
+use crate::firsts::keep_first_of_each;
 use aug_monoid::Key;
 use std::cmp::Ordering;
 

@@ -1,13 +1,16 @@
 //! Of each key the last pair.
-ghost use Rattle.std.specs.Prelude.{◌≡◌, IfOk, reverse};
+ghost use Rattle.std.specs.Prelude.{◌≡◌, ◌+◌, ◌≤◌, IfOk, length, reverse};
 ghost use Rattle.map_model.specs.Entries.{IsIncreasing};
 ghost use Rattle.map_model.specs.Operations.{build};
+ghost use Rattle.aug_monoid.specs.Fresh.{IsFresh};
 
-use crate::pairs::{keep_first_of_each, sorted_pairs, sorted_pairs_alone};
-use aug_monoid::{Key, NoMemory, Share};
+use crate::firsts::{keep_first_of_each, keep_first_of_each_counted};
+use crate::pairs::{sorted_pairs, sorted_pairs_alone};
+use aug_monoid::{Key, NoMemory, Share, Steps};
 use entry_lists::push_all_shared;
 use std::alloc::Global;
-use std::marker::{Send, Sync};
+use std::marker::{Brand, Send, Sync};
+use std::sync::ledger::{Blank, Ledger};
 use std::thread::Threads;
 
 /// The pairs from last to first.
@@ -48,8 +51,35 @@ pub fn last_of_each_key_alone<K: Key, V: Share>(
     ensures value { IfOk result (λ v. v.items ≡ build K.cmp pairs.now) }
     ensures increasing { IfOk result (λ v. IsIncreasing K.cmp v.items) }
 {
+    last_of_each_key_uncounted::<K, V, Brand>(alloc, pairs, Blank::new(1))
+}
+
+fn last_of_each_key_uncounted<K: Key, V: Share, C: Ledger>(
+    alloc: Global,
+    pairs: &[(K, V)],
+    blank: Blank,
+) -> Result<Vec<(K, V)>, NoMemory>
+    requires { IsFresh C.name C.parts blank }
+    ensures value { IfOk result (λ v. v.items ≡ build K.cmp pairs.now) }
+    ensures increasing { IfOk result (λ v. IsIncreasing K.cmp v.items) }
+{
+    let mut steps = Steps::<C>::start(blank);
+    last_of_each_key_counted(alloc, pairs, &mut steps)
+}
+
+/// `last_of_each_key_alone` with its comparisons counted but for those of its sort, of which nothing is known. For n pairs it takes
+/// at most n steps.
+pub fn last_of_each_key_counted<K: Key, V: Share, C: Ledger>(
+    alloc: Global,
+    pairs: &[(K, V)],
+    steps: &mut Steps<C>,
+) -> Result<Vec<(K, V)>, NoMemory>
+    ensures value { IfOk result (λ v. v.items ≡ build K.cmp pairs.now) }
+    ensures increasing { IfOk result (λ v. IsIncreasing K.cmp v.items) }
+    ensures cost { steps.new ≤ steps.old + length pairs.now }
+{
     let newest = newest_first(alloc, pairs)?;
     let mut batch = sorted_pairs_alone(alloc, newest)?;
-    keep_first_of_each(&mut batch);
+    keep_first_of_each_counted(&mut batch, steps);
     Ok(batch)
 }

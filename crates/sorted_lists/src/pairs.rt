@@ -1,8 +1,6 @@
 //! Pairs in the order of their keys.
-ghost use Rattle.std.specs.Prelude.{◌≡◌, IfOk};
-ghost use Rattle.std.specs.List.{dedup};
+ghost use Rattle.std.specs.Prelude.{◌≡◌, IfOk, length};
 ghost use Rattle.std.specs.List.Sorted.{IsSortedByKey, IsStableByKey};
-ghost use Rattle.std.specs.Ordering.{is_eq};
 
 use aug_monoid::{Key, NoMemory};
 use rayon::prelude::*;
@@ -60,6 +58,7 @@ pub fn sorted_pairs_alone<K: Key, V: Drop>(
 ) -> Result<Vec<(K, V)>, NoMemory>
     ensures sorted { IfOk result (λ v. IsSortedByKey (λ e. e.0) K.cmp v.items) }
     ensures stable { IfOk result (λ v. IsStableByKey (λ e. e.0) K.cmp pairs.items v.items) }
+    ensures len { IfOk result (λ v. length v.items ≡ length pairs.items) }
 {
     let mut pairs = pairs;
     pairs.as_mut_slice().sort_by(
@@ -69,17 +68,4 @@ pub fn sorted_pairs_alone<K: Key, V: Drop>(
         { x.0.cmp(&y.0) },
     )?;
     Ok(pairs)
-}
-
-/// Leaves of pairs in a row that have one key the first. O(n) for n pairs.
-pub fn keep_first_of_each<K: Key, V: Drop>(pairs: &mut Vec<(K, V)>)
-    ensures { pairs.new.items ≡ dedup (λ x y. is_eq (K.cmp x.0 y.0)) pairs.old.items }
-{
-    pairs.dedup_by(
-        |x: &mut (K, V), y: &mut (K, V)| -> bool
-            ensures answer { result ≡ is_eq (K.cmp x.old.0 y.old.0) }
-            ensures same_first { x.new ≡ x.old }
-            ensures same_second { y.new ≡ y.old }
-        { x.0.cmp(&y.0).is_eq() },
-    );
 }
