@@ -6,15 +6,15 @@ ghost use Rattle.map_model.specs.Fold.{reduce};
 ghost use Rattle.map_model.specs.Operations.{after, build, dels, puts};
 ghost use Rattle.map_model.specs.SetOperations.{difference, intersect, union};
 
-use crate::finding::entries_at;
+use crate::batches::{build_uncounted, multi_del_uncounted, multi_put_uncounted};
 use crate::map::Map;
-use aug_monoid::{NoMemory, Reduce, Resolve, Second, Steps, Test};
+use aug_monoid::{NoMemory, Reduce, Resolve, Steps, Test};
 use bulk_ops::{Combining, Differing, Intersecting, Uniting, shared_sides};
-use bulk_passes::{Filtering, Planting, Reducing};
+use bulk_passes::{Filtering, Reducing};
 use fork_join::{divide_alone, divide_uncounted};
-use sorted_lists::last_of_each_key_alone;
 use std::alloc::Global;
-use std::sync::ledger::Ledger;
+use std::marker::Brand;
+use std::sync::ledger::{Blank, Ledger};
 use tree_shape::Shape;
 
 impl<M: Shape> Map<M> {
@@ -22,8 +22,7 @@ impl<M: Shape> Map<M> {
     pub fn build_alone(alloc: Global, pairs: &[(M::Key, M::Val)]) -> Result<Map<M>, NoMemory>
         ensures { IfOk result (λ map. map.entries ≡ build M.Key.cmp pairs.now) }
     {
-        let entries = last_of_each_key_alone(alloc, pairs)?;
-        Map::from_tree(divide_uncounted(alloc, &Planting, entries.as_slice()))
+        build_uncounted::<M, Brand>(alloc, pairs, Blank::new(1))
     }
 
     /// The entries of either map. At a key of both the value is what `how` makes of the value here and the value in `b`.
@@ -77,19 +76,14 @@ impl<M: Shape> Map<M> {
     ) -> Result<Map<M>, NoMemory>
         ensures { IfOk result (λ map. map.entries ≡ after M.Key.cmp self.now.entries (puts pairs.now)) }
     {
-        let _size = self.size(); // for the proof alone: keys rise
-        let newer = Map::build_alone(alloc, pairs)?;
-        self.union_alone(alloc, &newer, &Second)
+        multi_put_uncounted::<M, Brand>(alloc, self, pairs, Blank::new(1))
     }
 
     /// The map without these keys; keys that it hasn't change nothing. O(k * log n) for k keys and a map of n entries.
     pub fn multi_del_alone(&self, alloc: Global, keys: &[M::Key]) -> Result<Map<M>, NoMemory>
         ensures { IfOk result (λ map. map.entries ≡ after M.Key.cmp self.now.entries (dels keys.now)) }
     {
-        let _size = self.size(); // for the proof alone: keys rise
-        let found = entries_at(alloc, &self.tree, keys)?;
-        let gone = Map::build_alone(alloc, &found)?;
-        self.difference_alone(alloc, &gone)
+        multi_del_uncounted::<M, Brand>(alloc, self, keys, Blank::new(1))
     }
 
     /// The map of the entries that hold. O(n) for a map of n entries.

@@ -1,5 +1,5 @@
 //! The entries that a batch of keys names.
-ghost use Rattle.std.specs.Prelude.{◌≡◌, IfOk};
+ghost use Rattle.std.specs.Prelude.{◌≡◌, ◌+◌, ◌*◌, ◌≤◌, IfOk, length};
 ghost use Rattle.map_model.specs.Operations.{found_in};
 ghost use Rattle.aug_monoid.specs.Fresh.{IsFresh};
 
@@ -19,10 +19,10 @@ pub(crate) fn entries_at<M: Shape>(
 ) -> Result<Vec<(M::Key, M::Val)>, NoMemory>
     ensures { IfOk result (λ v. v.items ≡ found_in M.Key.cmp tree.now.entries keys.now) }
 {
-    entries_counted::<M, Brand>(alloc, tree, keys, Blank::new(1))
+    entries_at_uncounted::<M, Brand>(alloc, tree, keys, Blank::new(1))
 }
 
-fn entries_counted<M: Shape, C: Ledger>(
+fn entries_at_uncounted<M: Shape, C: Ledger>(
     alloc: Global,
     tree: &Tree<M>,
     keys: &[M::Key],
@@ -32,9 +32,22 @@ fn entries_counted<M: Shape, C: Ledger>(
     ensures { IfOk result (λ v. v.items ≡ found_in M.Key.cmp tree.now.entries keys.now) }
 {
     let mut steps = Steps::<C>::start(blank);
+    entries_at_counted(alloc, tree, keys, &mut steps)
+}
+
+/// `entries_at` with a counter of the caller's. For k keys it takes at most `k * (height + M::Leaf::FIND)` steps.
+pub(crate) fn entries_at_counted<M: Shape, C: Ledger>(
+    alloc: Global,
+    tree: &Tree<M>,
+    keys: &[M::Key],
+    steps: &mut Steps<C>,
+) -> Result<Vec<(M::Key, M::Val)>, NoMemory>
+    ensures value { IfOk result (λ v. v.items ≡ found_in M.Key.cmp tree.now.entries keys.now) }
+    ensures cost { IfOk result (λ _. steps.new ≤ steps.old + length keys.now * (tree.now.height + M.Leaf.FIND)) }
+{
     let mut found = Vec::new(alloc);
     for key in keys {
-        if let Some(val) = get(alloc, tree, key, &mut steps)? {
+        if let Some(val) = get(alloc, tree, key, steps)? {
             found.push((key.share(alloc)?, val))?;
         }
     }

@@ -13,13 +13,15 @@
 //! pairs for it; the calls on single keys, on parts and on ranges stand on `tree_entry`, `tree_change`, `tree_cut`, `tree_join`,
 //! `tree_query`, `tree_filter`, `tree_many` and `tree_walk`, all over the trees of `tree_shape`.
 //!
-//! A call whose name ends in `_counted` is the one without that ending with a counter, and says how many steps it takes at most.
+//! A call whose name ends in `_counted` is the one without that ending with a counter, and says how many steps it takes at most; that of
+//! a build, and of puts and removals of many keys, is the twin on one thread.
 //!
 //! Tests: `map_tests`, `work_tests`. Wrong bodies: here.
 #![tactic(auto)]
 
 mod aliases;
 mod alone;
+mod batches;
 mod bulk;
 mod changes;
 mod counted;

@@ -1,4 +1,4 @@
 use Rattle.aug_map.proofs.finding.entries_at.Given as goal
 
-abbrev pub ghosts-entries_counted : goal.ghosts-entries_counted
-ghosts-entries_counted g a = record { name = a.blank.name; parts = a.blank.parts }
+abbrev pub ghosts-entries_at_uncounted : goal.ghosts-entries_at_uncounted
+ghosts-entries_at_uncounted g a = record { name = a.blank.name; parts = a.blank.parts }
