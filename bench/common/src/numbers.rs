@@ -55,13 +55,18 @@ impl Checksum {
         self.sum
     }
 
+    /// Adds the keys and values of entries.
+    pub fn add_entries<'a>(&mut self, entries: impl IntoIterator<Item = (&'a u64, &'a u64)>) {
+        for (key, val) in entries {
+            self.add(*key);
+            self.add(*val);
+        }
+    }
+
     /// The checksum of all keys and values.
     pub fn of<'a>(entries: impl IntoIterator<Item = (&'a u64, &'a u64)>) -> u64 {
         let mut checksum = Checksum::default();
-        for (key, val) in entries {
-            checksum.add(*key);
-            checksum.add(*val);
-        }
+        checksum.add_entries(entries);
         checksum.sum
     }
 }

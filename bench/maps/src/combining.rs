@@ -20,7 +20,7 @@ pub enum Whole {
     Walk,
 }
 
-fn random<M: Map>(numbers: &mut Numbers, count: u64, bound: u64) -> M {
+pub fn random<M: Map>(numbers: &mut Numbers, count: u64, bound: u64) -> M {
     numbers.pairs(count, bound).into_iter().collect()
 }
 

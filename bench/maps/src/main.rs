@@ -7,6 +7,10 @@ mod combining;
 mod making;
 mod many;
 mod map;
+mod merging;
+mod ranges;
+mod texts;
+mod versions;
 
 use asking::Question;
 use bench_common::{parsed, words};
@@ -15,6 +19,7 @@ use im_rc::OrdMap;
 use many::Asked;
 use map::Map;
 use std::collections::BTreeMap;
+use texts::TextWork;
 
 fn run<M: Map>(operation: &str, size: u64, seed: u64) {
     match operation {
@@ -37,6 +42,12 @@ fn run<M: Map>(operation: &str, size: u64, seed: u64) {
         "filter" => combining::one::<M>(Whole::Filter, size, seed),
         "map_reduce" => combining::one::<M>(Whole::MapReduce, size, seed),
         "walk" => combining::one::<M>(Whole::Walk, size, seed),
+        "ranges" => ranges::time::<M>(size, seed),
+        "extend" => merging::extend::<M>(size, seed),
+        "union_all" => merging::union_all::<M>(size, seed),
+        "diff" => versions::time::<M>(size, seed),
+        "get_text" => texts::time::<M::Texts>(TextWork::Gets, size, seed),
+        "put_text" => texts::time::<M::Texts>(TextWork::Puts, size, seed),
         other => panic!("no operation {other}"),
     }
 }

@@ -1,10 +1,19 @@
 //! What the operations ask of a map.
+use crate::texts::TextMap;
 use bench_common::merged;
+use im_rc::ordmap::DiffItem;
 use im_rc::OrdMap;
 use std::collections::BTreeMap;
+use std::mem;
 
-/// A map of which the operations on two leave both whole.
-pub trait Map: Default + FromIterator<(u64, u64)> {
+/// A key with the values that two versions of a map have there.
+pub type Changed = (u64, Option<u64>, Option<u64>);
+
+/// A map of which the operations on two, but for `put_all`, leave both whole.
+pub trait Map: Clone + Default + FromIterator<(u64, u64)> {
+    /// The map of the same kind whose keys are texts.
+    type Texts: TextMap;
+
     fn put(&mut self, key: u64, val: u64);
 
     /// A copy that takes no time in the size; none where there is no such copy.
@@ -36,6 +45,12 @@ pub trait Map: Default + FromIterator<(u64, u64)> {
 
     /// The entries whose keys the other has not.
     fn subtracted(&self, other: &Self) -> Self;
+
+    /// Puts the entries of another map, which is given up.
+    fn put_all(&mut self, other: Self);
+
+    /// Where a newer version has another value than this one, or one of the two has none.
+    fn changes(&self, newer: &Self) -> Vec<Changed>;
 }
 
 /// What both kinds of maps do by calls of the same names.
@@ -76,6 +91,8 @@ macro_rules! same_calls {
 }
 
 impl Map for BTreeMap<u64, u64> {
+    type Texts = BTreeMap<String, u64>;
+
     same_calls!();
 
     fn shared(&self) -> Option<Self> {
@@ -101,9 +118,28 @@ impl Map for BTreeMap<u64, u64> {
             .map(|(key, val)| (*key, *val))
             .collect()
     }
+
+    fn put_all(&mut self, mut other: Self) {
+        self.append(&mut other);
+    }
+
+    fn changes(&self, newer: &Self) -> Vec<Changed> {
+        merged(self, newer).filter(|(_, old, new)| old != new).collect()
+    }
+}
+
+/// What a change of an `OrdMap` says.
+fn changed(item: DiffItem<u64, u64>) -> Changed {
+    match item {
+        DiffItem::Add(key, val) => (*key, None, Some(*val)),
+        DiffItem::Remove(key, val) => (*key, Some(*val), None),
+        DiffItem::Update { old, new } => (*old.0, Some(*old.1), Some(*new.1)),
+    }
 }
 
 impl Map for OrdMap<u64, u64> {
+    type Texts = OrdMap<String, u64>;
+
     same_calls!();
 
     fn shared(&self) -> Option<Self> {
@@ -120,5 +156,13 @@ impl Map for OrdMap<u64, u64> {
 
     fn subtracted(&self, other: &Self) -> Self {
         self.clone().relative_complement(other.clone())
+    }
+
+    fn put_all(&mut self, other: Self) {
+        *self = mem::take(self).union_with(other, |_, new| new);
+    }
+
+    fn changes(&self, newer: &Self) -> Vec<Changed> {
+        self.diff(newer).map(changed).collect()
     }
 }

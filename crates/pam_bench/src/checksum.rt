@@ -1,5 +1,8 @@
 //! Many numbers as one.
 
+use aug_monoid::{NoMemory, SumMax};
+use ord_map::Iter;
+
 /// Mixes numbers, in their order, into one.
 #[derive(Drop)]
 pub struct Checksum {
@@ -19,7 +22,24 @@ impl Checksum {
             .wrapping_add(number);
     }
 
+    /// Adds the keys and values of entries.
+    pub fn add_entries(&mut self, entries: Iter<'_, SumMax<u64>>) -> Result<(), NoMemory> {
+        for entry in entries {
+            let (key, val) = entry?;
+            self.add(key);
+            self.add(val);
+        }
+        Ok(())
+    }
+
     pub fn sum(&self) -> u64 {
         self.sum
+    }
+
+    /// The checksum of the keys and values of entries.
+    pub fn of(entries: Iter<'_, SumMax<u64>>) -> Result<u64, NoMemory> {
+        let mut checksum = Checksum::new();
+        checksum.add_entries(entries)?;
+        Ok(checksum.sum())
     }
 }

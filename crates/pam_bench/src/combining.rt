@@ -2,10 +2,11 @@
 ghost use Rattle.std.specs.Prelude.{◌-◌, ◌^◌, ◌+◌, ◌%◌, ◌≤◌, min, nat_eq};
 ghost use Rattle.std.proofs.Common.{arith};
 
-use crate::Totaled;
+use crate::checksum::Checksum;
 use crate::making::built;
 use crate::numbers::Numbers;
-use crate::timed::{Timed, checksum_of, made, since};
+use crate::timed::{Timed, made, since};
+use crate::{Sums, Totaled};
 use anyhow::Result;
 use aug_monoid::{NoMemory, Reduce, SatSum, Test};
 use fork_join::{FreeGate, On};
@@ -75,7 +76,7 @@ pub(crate) fn time_two<R: Threads + Clock + Sync>(
     let b = random_map(on, alloc, &mut numbers, other, half * 2)?;
     let start = Instant::now(on.rt)?;
     let map = combine(on, alloc, combined, &a, &b)?;
-    made(on.rt, alloc, start, &map)
+    made(on.rt, start, map.cursor(alloc))
 }
 
 /// Even values.
@@ -141,14 +142,15 @@ pub(crate) fn time_one<R: Threads + Clock + Sync>(
     match whole {
         Whole::Filter => {
             let even = map.filter(on.rt, alloc, on.gate, on.cut, &EvenValue)?;
-            made(on.rt, alloc, start, &even)
+            made(on.rt, start, even.cursor(alloc))
         }
         Whole::MapReduce => {
             let sum = map.map_reduce(on.rt, alloc, on.gate, on.cut, &WholeSum)?;
             since(on.rt, start, sum)
         }
         Whole::Walk => {
-            let checksum = checksum_of(alloc, &map)?;
+            let map = Sums::from_map(map);
+            let checksum = Checksum::of(map.iter(alloc))?;
             since(on.rt, start, checksum)
         }
     }

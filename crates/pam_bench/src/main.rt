@@ -10,8 +10,12 @@ mod checksum;
 mod combining;
 mod making;
 mod many;
+mod merging;
 mod numbers;
+mod ranges;
+mod texts;
 mod timed;
+mod versions;
 
 use anyhow::{Context, Result, bail};
 use asking::Question;
@@ -21,15 +25,20 @@ use combining::{Combined, Whole, time_one, time_two};
 use fork_join::{Cut, FreeGate, On};
 use making::Making;
 use many::Asked;
+use ord_map::OrdMap;
 use std::alloc::Global;
 use std::env;
 use std::marker::Sync;
 use std::rt::Clock;
 use std::thread::Threads;
+use texts::TextWork;
 use timed::Timed;
 
 /// A map with the totals of its values, in plain blocks.
 pub(crate) type Totaled = PlainMap<SumMax<u64>>;
+
+/// The same as users see it.
+pub(crate) type Sums = OrdMap<SumMax<u64>>;
 
 /// The same in blocks of gaps.
 pub(crate) type Coded = CodedMap<SumMax<u64>>;
@@ -70,6 +79,19 @@ fn run<R: Threads + Clock + Sync>(
         "rank" => asking::time(on, alloc, Question::Rank, size, seed),
         "select" => asking::time(on, alloc, Question::Select, size, seed),
         "neighbours" => asking::time(on, alloc, Question::Neighbours, size, seed),
+        _ => run_alone(on.rt, alloc, name, size, seed),
+    }
+}
+
+// Does the operation of a name that is a call of `OrdMap` on one thread.
+fn run_alone(rt: &impl Clock, alloc: Global, name: &str, size: u64, seed: u64) -> Result<Timed> {
+    match name {
+        "ranges" => ranges::time(rt, alloc, size, seed),
+        "extend" => merging::time_extend(rt, alloc, size, seed),
+        "union_all" => merging::time_union_all(rt, alloc, size, seed),
+        "diff" => versions::time(rt, alloc, size, seed),
+        "get_text" => texts::time(rt, alloc, TextWork::Gets, size, seed),
+        "put_text" => texts::time(rt, alloc, TextWork::Puts, size, seed),
         _ => bail!("no such operation"),
     }
 }

@@ -2,9 +2,10 @@
 
 ghost use Rattle.aug_monoid.specs.Fresh.{IsFresh};
 
+use crate::checksum::Checksum;
 use crate::numbers::Numbers;
-use crate::timed::{Timed, checksum_of};
-use crate::{Coded, Totaled};
+use crate::timed::Timed;
+use crate::{Coded, Sums, Totaled};
 use anyhow::Result;
 use aug_monoid::{NoMemory, Steps};
 use fork_join::{FreeGate, On};
@@ -86,6 +87,17 @@ pub(crate) fn built<R: Threads + Sync>(
     Totaled::build(on.rt, alloc, on.gate, on.cut, pairs)
 }
 
+/// The map of as many random pairs with keys below a bound, by the users' call.
+pub(crate) fn random_sums(
+    alloc: Global,
+    numbers: &mut Numbers,
+    count: u64,
+    bound: u64,
+) -> Result<Sums, NoMemory> {
+    let pairs = numbers.pairs(alloc, count, bound)?;
+    Sums::from_pairs(alloc, &pairs)
+}
+
 fn make<R: Threads + Sync>(
     on: On<R, FreeGate>,
     alloc: Global,
@@ -130,7 +142,7 @@ fn rising_pairs(alloc: Global, count: u64) -> Result<Vec<(u64, u64)>, NoMemory> 
 fn told(alloc: Global, making: Making, made: &Made) -> Result<u64, NoMemory> {
     match made {
         Made::Plain(map) => match making {
-            Making::Build => checksum_of(alloc, map),
+            Making::Build => Checksum::of(map.cursor(alloc)),
             _ => Ok(map.size()),
         },
         Made::Coded(map) => Ok(map.size()),

@@ -1,10 +1,9 @@
 //! What an operation tells.
 
-use crate::Totaled;
 use crate::checksum::Checksum;
 use anyhow::Result;
-use aug_monoid::NoMemory;
-use std::alloc::Global;
+use aug_monoid::SumMax;
+use ord_map::Iter;
 use std::rt::Clock;
 use std::time::Instant;
 
@@ -24,22 +23,15 @@ pub(crate) fn since(rt: &impl Clock, start: Instant, checksum: u64) -> Result<Ti
     })
 }
 
-/// The checksum of all keys and values of a map.
-pub(crate) fn checksum_of(alloc: Global, map: &Totaled) -> Result<u64, NoMemory> {
-    let mut checksum = Checksum::new();
-    for entry in map.cursor(alloc) {
-        let (key, val) = entry?;
-        checksum.add(key);
-        checksum.add(val);
-    }
-    Ok(checksum.sum())
-}
-
-/// The time since a start, beside the checksum of the map that it took to make.
-pub(crate) fn made(rt: &impl Clock, alloc: Global, start: Instant, map: &Totaled) -> Result<Timed> {
+/// The time since a start, beside the checksum of the entries of the map that it took to make.
+pub(crate) fn made(
+    rt: &impl Clock,
+    start: Instant,
+    entries: Iter<'_, SumMax<u64>>,
+) -> Result<Timed> {
     let nanoseconds = start.elapsed(rt)?.as_nanos();
     Ok(Timed {
-        checksum: checksum_of(alloc, map)?,
+        checksum: Checksum::of(entries)?,
         nanoseconds,
     })
 }
