@@ -1,5 +1,6 @@
 //! Questions to maps: folds of ranges, places of keys, neighbours, and parts.
-ghost use Rattle.std.specs.Prelude.{◌≡◌, ◌+◌, ◌*◌, ◌≤◌, IfOk, IsOk, length};
+ghost use Rattle.std.specs.Prelude.{◌≡◌, ℕ, ◌+◌, ◌*◌, ◌≤◌, IfOk, IsOk, length};
+ghost use Rattle.aug_monoid.specs.Images.{AreImageCosts, project_cost};
 ghost use Rattle.map_model.specs.Entries.{above, below};
 ghost use Rattle.map_model.specs.Fold.{aug_filter, fold_of, project, range_fold};
 ghost use Rattle.map_model.specs.Parts.{left_of, next, prev, rank, right_of, select, slice};
@@ -138,6 +139,22 @@ impl<M: Shape> Map<M> {
         ensures cost { images.new ≤ images.old + (4 * self.now.height + 4 * M.BLOCK + 1) }
     {
         tree_query::aug_project_counted(alloc, &self.tree, lo, hi, how, images)
+    }
+
+    /// `aug_project` with its steps counted, and those that its images take: where `most` are enough for the image of the fold of
+    /// any at most as many entries, at most `(4 * height + 4 * B + 1) * most + (2 * height + 4 * B)`.
+    pub fn aug_project_in_steps<P: Project<M::Augment>, C: Ledger>(
+        &self,
+        alloc: Global,
+        lo: &M::Key,
+        hi: &M::Key,
+        how: &P,
+        steps: &mut Steps<C>,
+    ) -> Result<P::Out, NoMemory>
+        ensures value { IfOk result (λ out. out ≡ project M.Key.cmp M.Augment.base_of M.Augment.unit_of M.Augment.combined (P.image_of how.now) self.now.entries lo.now hi.now) }
+        ensures cost { (most : ℕ) → AreImageCosts M.Augment.base_of M.Augment.unit_of M.Augment.combined (P.IsImageCost how.now) (length self.now.entries) most → steps.new ≤ steps.old + project_cost M.BLOCK self.now.height most }
+    {
+        tree_query::aug_project_in_steps(alloc, &self.tree, lo, hi, how, steps)
     }
 
     /// How many keys are less than `key`, in at most `height + M::Leaf::FIND` steps. It takes no memory.

@@ -1,5 +1,6 @@
 pub mod Blocks
 pub mod Costs
+pub mod Images
 pub mod Nodes
 pub mod Ranges
 pub mod Sides

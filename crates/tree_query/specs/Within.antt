@@ -83,3 +83,34 @@ module _ {K : Type 0} where
   image_cost (Between lo hi) height block = 4 * height + 4 * block + 1
   image_cost (Below hi) height block = 2 * height + 2 * block + 1
   image_cost (Above lo) height block = 2 * height + 2 * block + 1
+
+  -- how many comparisons show that a range ends before a key
+  abbrev pub end_tests : KeyRange K → ℕ
+  end_tests All = 0
+  end_tests (AtMost hi) = 1
+  end_tests (AtLeast lo) = 0
+  end_tests (Between lo hi) = 1
+  end_tests (Below hi) = 1
+  end_tests (Above lo) = 0
+
+  -- how many comparisons show that a range begins after a key
+  abbrev pub begin_tests : KeyRange K → ℕ
+  begin_tests All = 0
+  begin_tests (AtMost hi) = 0
+  begin_tests (AtLeast lo) = 1
+  begin_tests (Between lo hi) = 1
+  begin_tests (Below hi) = 0
+  begin_tests (Above lo) = 1
+
+  -- the most comparisons of keys that the projection of a range takes: on one path and in one block for each end
+  abbrev pub compare_cost : KeyRange K → ℕ → ℕ → ℕ
+  compare_cost All height block = 0
+  compare_cost (AtMost hi) height block = height + 2 * block
+  compare_cost (AtLeast lo) height block = height + 2 * block
+  compare_cost (Between lo hi) height block = 2 * height + 4 * block
+  compare_cost (Below hi) height block = height + 2 * block
+  compare_cost (Above lo) height block = height + 2 * block
+
+  -- the most steps that the projection of a range takes, where `most` are enough for an image
+  abbrev pub span_cost : KeyRange K → ℕ → ℕ → ℕ → ℕ
+  span_cost range height block most = image_cost range height block * most + compare_cost range height block

@@ -19,4 +19,4 @@ pub use folds::{aug_left, aug_range, aug_right};
 pub use neighbours::{next, prev};
 pub use parts::{above, at_least, below, slice};
 pub use places::{rank, select};
-pub use project::{aug_project, aug_project_counted};
+pub use project::{aug_project, aug_project_counted, aug_project_in_steps};

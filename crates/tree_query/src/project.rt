@@ -1,9 +1,10 @@
 //! Images of the folds of ranges.
-ghost use Rattle.std.specs.Prelude.{◌≡◌, ◌+◌, ◌*◌, ◌≤◌, length, IfOk};
+ghost use Rattle.std.specs.Prelude.{◌≡◌, ℕ, ◌+◌, ◌*◌, ◌≤◌, length, IfOk};
 ghost use Rattle.map_model.specs.Entries.{IsIncreasing};
 ghost use Rattle.map_model.specs.Fold.{fold_of, project};
-ghost use Rattle.tree_query.specs.Within.{within, image_cost};
+ghost use Rattle.tree_query.specs.Within.{within, begin_tests, end_tests, image_cost, span_cost};
 ghost use Rattle.aug_monoid.specs.Fresh.{IsFresh};
+ghost use Rattle.aug_monoid.specs.Images.{AreImageCosts, project_cost};
 
 use crate::range::{KeyRange, Span};
 use aug_monoid::{Augment, Leaf, NoMemory, Project, Steps};
@@ -77,50 +78,91 @@ fn project_comparing<M: Shape, P: Project<M::Augment>, C: Ledger, D: Ledger>(
     project_span(alloc, Span { tree, range }, how, images, &mut steps)
 }
 
-/// The image of an augmented value, in one step. A projection takes images here alone.
+/// `aug_project` with its steps counted, and those of its images: where `most` are enough for an image, at most
+/// `(4 * height + 4 * M::BLOCK + 1) * most + (2 * height + 4 * M::BLOCK)`.
+pub fn aug_project_in_steps<M: Shape, P: Project<M::Augment>, C: Ledger>(
+    alloc: Global,
+    tree: &Tree<M>,
+    lo: &M::Key,
+    hi: &M::Key,
+    how: &P,
+    steps: &mut Steps<C>,
+) -> Result<P::Out, NoMemory>
+    ensures value { IfOk result (λ out. out ≡ project M.Key.cmp M.Augment.base_of M.Augment.unit_of M.Augment.combined (P.image_of how.now) tree.now.entries lo.now hi.now) }
+    ensures cost { (most : ℕ) → AreImageCosts M.Augment.base_of M.Augment.unit_of M.Augment.combined (P.IsImageCost how.now) (length tree.now.entries) most → steps.new ≤ steps.old + project_cost M.BLOCK tree.now.height most }
+{
+    project_imaging::<M, P, C, Brand>(alloc, tree, lo, hi, how, steps, Blank::new(1))
+}
+
+// The same, with a counter of its own for the images.
+fn project_imaging<M: Shape, P: Project<M::Augment>, C: Ledger, D: Ledger>(
+    alloc: Global,
+    tree: &Tree<M>,
+    lo: &M::Key,
+    hi: &M::Key,
+    how: &P,
+    steps: &mut Steps<C>,
+    blank: Blank,
+) -> Result<P::Out, NoMemory>
+    requires { IsFresh D.name D.parts blank }
+    ensures value { IfOk result (λ out. out ≡ project M.Key.cmp M.Augment.base_of M.Augment.unit_of M.Augment.combined (P.image_of how.now) tree.now.entries lo.now hi.now) }
+    ensures cost { (most : ℕ) → AreImageCosts M.Augment.base_of M.Augment.unit_of M.Augment.combined (P.IsImageCost how.now) (length tree.now.entries) most → steps.new ≤ steps.old + project_cost M.BLOCK tree.now.height most }
+{
+    let mut images = Steps::<D>::start(blank);
+    let range = KeyRange::Between { lo, hi };
+    project_span(alloc, Span { tree, range }, how, &mut images, steps)
+}
+
+/// The image of an augmented value, in one step of `images`. A projection takes images here alone.
 #[inline(always)]
-fn imaged<A: Augment, P: Project<A>, C: Ledger>(
+fn imaged<A: Augment, P: Project<A>, C: Ledger, D: Ledger>(
     alloc: Global,
     aug: &A::Aug,
     how: &P,
     images: &mut Steps<C>,
+    steps: &mut Steps<D>,
 ) -> Result<P::Out, NoMemory>
     ensures value { IfOk result (λ out. out ≡ P.image_of how.now aug.now) }
     ensures one_step { images.new ≡ images.old + 1 }
+    ensures work { (most : ℕ) → P.IsImageCost how.now aug.now most → steps.new ≤ steps.old + most }
 {
     images.tick();
-    how.image(alloc, aug)
+    how.image(alloc, aug, steps)
 }
 
 /// The image of the stored fold of all entries.
-fn project_whole<M: Shape, P: Project<M::Augment>, C: Ledger>(
+fn project_whole<M: Shape, P: Project<M::Augment>, C: Ledger, D: Ledger>(
     alloc: Global,
     tree: &Tree<M>,
     how: &P,
     images: &mut Steps<C>,
+    steps: &mut Steps<D>,
 ) -> Result<P::Out, NoMemory>
     ensures value { IfOk result (λ out. out ≡ P.image_of how.now (fold_of M.Augment.base_of M.Augment.unit_of M.Augment.combined tree.now.entries)) }
     ensures one_step { images.new ≡ images.old + 1 }
+    ensures work { (most : ℕ) → P.IsImageCost how.now (fold_of M.Augment.base_of M.Augment.unit_of M.Augment.combined tree.now.entries) most → steps.new ≤ steps.old + most }
 {
     match tree.aug() {
-        Some(fold) => imaged::<M::Augment, P, C>(alloc, fold, how, images),
-        None => imaged::<M::Augment, P, C>(alloc, &<M::Augment>::unit(), how, images),
+        Some(fold) => imaged::<M::Augment, P, C, D>(alloc, fold, how, images, steps),
+        None => imaged::<M::Augment, P, C, D>(alloc, &<M::Augment>::unit(), how, images, steps),
     }
 }
 
 /// The image of one entry's augmented value.
-fn project_entry<A: Augment, P: Project<A>, C: Ledger>(
+fn project_entry<A: Augment, P: Project<A>, C: Ledger, D: Ledger>(
     alloc: Global,
     key: &A::Key,
     val: &A::Val,
     how: &P,
     images: &mut Steps<C>,
+    steps: &mut Steps<D>,
 ) -> Result<P::Out, NoMemory>
     ensures value { IfOk result (λ out. out ≡ P.image_of how.now (A.base_of key.now val.now)) }
     ensures cost { images.new ≤ images.old + 1 }
+    ensures work { (most : ℕ) → P.IsImageCost how.now (A.base_of key.now val.now) most → steps.new ≤ steps.old + most }
 {
     let base = A::base(alloc, key, val)?;
-    imaged::<A, P, C>(alloc, &base, how, images)
+    imaged::<A, P, C, D>(alloc, &base, how, images, steps)
 }
 
 /// The image for the entries of a leaf in a range, in one walk that ends behind the range.
@@ -135,8 +177,9 @@ fn project_block<A: Augment, L: Leaf<A::Key, A::Val>, P: Project<A>, C: Ledger, 
     requires { IsIncreasing A.Key.cmp (L.entries leaf.now) }
     ensures value { IfOk result (λ out. out ≡ P.image_of how.now (fold_of A.base_of A.unit_of A.combined (within A.Key.cmp range.now (L.entries leaf.now)))) }
     ensures cost { images.new ≤ images.old + (length (L.entries leaf.now) + 1) }
+    ensures work { (most : ℕ) → AreImageCosts A.base_of A.unit_of A.combined (P.IsImageCost how.now) (length (L.entries leaf.now)) most → steps.new ≤ steps.old + ((length (L.entries leaf.now) + 1) * most + length (L.entries leaf.now) * (end_tests range.now + begin_tests range.now)) }
 {
-    let mut out = imaged::<A, P, C>(alloc, &A::unit(), how, images)?;
+    let mut out = imaged::<A, P, C, D>(alloc, &A::unit(), how, images, steps)?;
     let mut walk = leaf.walk();
     for _at in 0..leaf.len() {
         let Some(entry) = leaf.walk_next(&mut walk) else {
@@ -149,26 +192,27 @@ fn project_block<A: Augment, L: Leaf<A::Key, A::Val>, P: Project<A>, C: Ledger, 
         if range.begins_after(key, steps) {
             continue;
         }
-        let image = project_entry::<A, P, C>(alloc, key, entry.val(), how, images)?;
+        let image = project_entry::<A, P, C, D>(alloc, key, entry.val(), how, images, steps)?;
         out = how.combine(alloc, out, image)?;
     }
     Ok(out)
 }
 
 /// The image for what stands before an entry, the entry, and what stands behind it.
-fn combine_around<A: Augment, P: Project<A>, C: Ledger>(
+fn image_around<A: Augment, P: Project<A>, C: Ledger, D: Ledger>(
     alloc: Global,
     front: P::Out,
-    key: &A::Key,
-    val: &A::Val,
+    pair: (&A::Key, &A::Val),
     back: P::Out,
     how: &P,
     images: &mut Steps<C>,
+    steps: &mut Steps<D>,
 ) -> Result<P::Out, NoMemory>
-    ensures value { IfOk result (λ out. out ≡ P.combined how.now front (P.combined how.now (P.image_of how.now (A.base_of key.now val.now)) back)) }
+    ensures value { IfOk result (λ out. out ≡ P.combined how.now front (P.combined how.now (P.image_of how.now (A.base_of pair.entry.0.now pair.entry.1.now)) back)) }
     ensures cost { images.new ≤ images.old + 1 }
+    ensures work { (most : ℕ) → P.IsImageCost how.now (A.base_of pair.entry.0.now pair.entry.1.now) most → steps.new ≤ steps.old + most }
 {
-    let middle = project_entry::<A, P, C>(alloc, key, val, how, images)?;
+    let middle = project_entry::<A, P, C, D>(alloc, pair.0, pair.1, how, images, steps)?;
     let behind = how.combine(alloc, middle, back)?;
     how.combine(alloc, front, behind)
 }
@@ -183,13 +227,14 @@ fn project_span<M: Shape, P: Project<M::Augment>, C: Ledger, D: Ledger>(
 ) -> Result<P::Out, NoMemory>
     ensures value { IfOk result (λ out. out ≡ P.image_of how.now (fold_of M.Augment.base_of M.Augment.unit_of M.Augment.combined (within M.Key.cmp span.entry.range span.entry.tree.now.entries))) }
     ensures cost { images.new ≤ images.old + image_cost span.entry.range span.entry.tree.now.height M.BLOCK }
+    ensures work { (most : ℕ) → AreImageCosts M.Augment.base_of M.Augment.unit_of M.Augment.combined (P.IsImageCost how.now) (length span.entry.tree.now.entries) most → steps.new ≤ steps.old + span_cost span.entry.range span.entry.tree.now.height M.BLOCK most }
 {
     let Span { tree, range } = span;
     if range.is_all() {
-        return project_whole(alloc, tree, how, images);
+        return project_whole(alloc, tree, how, images, steps);
     }
     match tree.look() {
-        Look::Empty => imaged::<M::Augment, P, C>(alloc, &<M::Augment>::unit(), how, images),
+        Look::Empty => project_whole(alloc, tree, how, images, steps),
         Look::Block { leaf } => project_block::<M::Augment, M::Leaf, P, C, D>(
             alloc, leaf, &range, how, images, steps,
         ),
@@ -215,7 +260,7 @@ fn project_span<M: Shape, P: Project<M::Augment>, C: Ledger, D: Ledger>(
             };
             let front = project_span(alloc, low, how, images, steps)?;
             let back = project_span(alloc, high, how, images, steps)?;
-            combine_around::<M::Augment, P, C>(alloc, front, key, val, back, how, images)
+            image_around::<M::Augment, P, C, D>(alloc, front, (key, val), back, how, images, steps)
         }
     }
 }

@@ -1,6 +1,6 @@
 //! Ranges of keys.
 ghost use Rattle.std.specs.Prelude.{◌≡◌, ◌+◌, ◌≤◌};
-ghost use Rattle.tree_query.specs.Within.{ends_before, begins_after, is_all, left_part, right_part};
+ghost use Rattle.tree_query.specs.Within.{ends_before, begins_after, end_tests, begin_tests, is_all, left_part, right_part};
 
 use aug_monoid::{Key, Steps};
 use std::alloc::AllocError;
@@ -46,6 +46,7 @@ impl<'a, K: Key> KeyRange<'a, K> {
     pub(crate) fn ends_before<C: Ledger>(&self, key: &K, steps: &mut Steps<C>) -> bool
         ensures value { result ≡ ends_before K.cmp self.now key.now }
         ensures cost { steps.new ≤ steps.old + 1 }
+        ensures tests { steps.new ≤ steps.old + end_tests self.now }
     {
         match self {
             KeyRange::All => false,
@@ -61,6 +62,7 @@ impl<'a, K: Key> KeyRange<'a, K> {
     pub(crate) fn begins_after<C: Ledger>(&self, key: &K, steps: &mut Steps<C>) -> bool
         ensures value { result ≡ begins_after K.cmp self.now key.now }
         ensures cost { steps.new ≤ steps.old + 1 }
+        ensures tests { steps.new ≤ steps.old + begin_tests self.now }
     {
         match self {
             KeyRange::All => false,
