@@ -1,4 +1,5 @@
 mod Counts
+mod Few
 mod Sums
 mod Kept
 mod Inside

@@ -3,3 +3,4 @@ pub mod Rows
 pub mod Points
 pub mod Totals
 pub mod Listings
+pub mod Costs

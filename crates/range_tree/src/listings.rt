@@ -4,9 +4,10 @@ ghost use Rattle.range_tree.specs.Listings.{append_monoid, points_of, rows_point
 
 use crate::places::{greatest_at, least_at, swapped};
 use crate::rows::{Places, RowMap, Rows};
-use aug_monoid::{NoMemory, Pair64, Project};
+use aug_monoid::{NoMemory, Pair64, Project, Steps};
 use std::alloc::Global;
 use std::marker::Model;
+use std::sync::ledger::Ledger;
 
 /// Points by (x, y), with their weights.
 #[derive(Drop)]
@@ -39,6 +40,7 @@ pub(crate) struct RowPoints {
     pub(crate) y2: u64,
 }
 
+// No number of steps is said to be enough: what a list takes to be made and sorted is not counted.
 impl Project<Places> for RowPoints {
     type Out = Listed;
 
@@ -48,13 +50,20 @@ impl Project<Places> for RowPoints {
 
     ghost combined = { λ _ a b. a ++ b };
 
+    ghost IsImageCost = { λ _ _ _. ⊥ };
+
     ghost image_fits = { λ _ _ _. tt };
 
     ghost monoid = { λ _. append_monoid };
 
     ghost projection = { λ s. rows_points_projection s.y1 s.y2 };
 
-    fn image(&self, alloc: Global, aug: &Rows) -> Result<Listed, NoMemory> {
+    fn image<C: Ledger>(
+        &self,
+        alloc: Global,
+        aug: &Rows,
+        _steps: &mut Steps<C>,
+    ) -> Result<Listed, NoMemory> {
         let part = aug
             .map()
             .slice(alloc, &least_at(self.y1), &greatest_at(self.y2))?;

@@ -1,18 +1,17 @@
 //! Totals of rows.
-ghost use Rattle.std.specs.Prelude.{◌≡◌, length, IfOk};
+ghost use Rattle.std.specs.Prelude.{◌≡◌, ◌+◌, ◌*◌, ◌≤◌, length, IfOk};
 ghost use Rattle.aug_monoid.specs.Exact.{pair64_cmp};
 ghost use Rattle.map_model.specs.Parts.{left_of, slice};
+ghost use Rattle.range_tree.specs.Costs.{IsRowsCost, rows_cost};
 ghost use Rattle.range_tree.specs.Totals.{TotalFits, capped_total, rows_projection, rows_total, rows_total_fits};
 ghost use Rattle.range_tree.specs.Totals.{total_both, total_monoid};
-ghost use Rattle.aug_monoid.specs.Fresh.{IsFresh};
 
 use crate::places::{greatest_at, least_at};
 use crate::points::Total;
 use crate::rows::{Places, RowMap, Rows};
-use aug_monoid::{NoMemory, Pair64, Project, Steps};
+use aug_monoid::{Key, NoMemory, Pair64, Project, Steps};
 use std::alloc::Global;
-use std::marker::Brand;
-use std::sync::ledger::{Blank, Ledger};
+use std::sync::ledger::Ledger;
 
 /// The total of the points with y from `y1` to `y2`.
 #[derive(Drop)]
@@ -30,20 +29,23 @@ impl Project<Places> for RowTotal {
 
     ghost combined = { λ _. total_both };
 
+    ghost IsImageCost = { λ _ rows most. IsRowsCost rows most };
+
     ghost image_fits = { λ s rows _. rows_total_fits s.y1 s.y2 rows };
 
     ghost monoid = { λ _. total_monoid };
 
     ghost projection = { λ s. rows_projection s.y1 s.y2 };
 
-    fn image(&self, alloc: Global, aug: &Rows) -> Result<Total, NoMemory> {
-        total_uncounted::<Brand>(
-            alloc,
-            aug.map(),
-            &least_at(self.y1),
-            &greatest_at(self.y2),
-            Blank::new(1),
-        )
+    fn image<C: Ledger>(
+        &self,
+        alloc: Global,
+        aug: &Rows,
+        steps: &mut Steps<C>,
+    ) -> Result<Total, NoMemory> {
+        let map = aug.map();
+        let _height = map.height(); // for the proof alone: how high so many rows may be
+        total_between(alloc, map, &least_at(self.y1), &greatest_at(self.y2), steps)
     }
 
     fn combine(&self, _alloc: Global, a: Total, b: Total) -> Result<Total, NoMemory> {
@@ -61,7 +63,8 @@ fn count_upto<C: Ledger>(
     key: &Pair64,
     steps: &mut Steps<C>,
 ) -> Result<u64, NoMemory>
-    ensures { IfOk result (λ count. count ≡ length (left_of pair64_cmp map.now.entries key.now)) }
+    ensures count { IfOk result (λ count. count ≡ length (left_of pair64_cmp map.now.entries key.now)) }
+    ensures cost { steps.new ≤ steps.old + (2 * map.now.height + 512) }
 {
     let _number = map.size(); // for the proof alone: keys rise, and there are fewer than 2^60
     let less = map.rank(key, steps);
@@ -79,9 +82,10 @@ fn count_between<C: Ledger>(
     hi: &Pair64,
     steps: &mut Steps<C>,
 ) -> Result<u64, NoMemory>
-    ensures { IfOk result (λ count. count ≡ length (slice pair64_cmp map.now.entries lo.now hi.now)) }
+    ensures count { IfOk result (λ count. count ≡ length (slice pair64_cmp map.now.entries lo.now hi.now)) }
+    ensures cost { steps.new ≤ steps.old + (3 * map.now.height + 769) }
 {
-    if lo.cmp(hi).is_gt() {
+    if lo.order(hi, steps).is_gt() {
         return Ok(0);
     }
     let upto = count_upto(alloc, map, hi, steps)?;
@@ -96,25 +100,11 @@ fn total_between<C: Ledger>(
     hi: &Pair64,
     steps: &mut Steps<C>,
 ) -> Result<Total, NoMemory>
-    ensures { IfOk result (λ total. total ≡ capped_total (slice pair64_cmp map.now.entries lo.now hi.now)) }
+    ensures total { IfOk result (λ total. total ≡ capped_total (slice pair64_cmp map.now.entries lo.now hi.now)) }
+    ensures cost { steps.new ≤ steps.old + rows_cost map.now.height }
 {
     let _number = map.size(); // for the proof alone: keys rise, and there are fewer than 2^60
     let sum = map.aug_range(alloc, lo, hi, steps)?.sum;
     let count = count_between(alloc, map, lo, hi, steps)?;
     Ok(Total { sum, count })
-}
-
-// The same, with no steps counted.
-fn total_uncounted<C: Ledger>(
-    alloc: Global,
-    map: &RowMap,
-    lo: &Pair64,
-    hi: &Pair64,
-    blank: Blank,
-) -> Result<Total, NoMemory>
-    requires { IsFresh C.name C.parts blank }
-    ensures { IfOk result (λ total. total ≡ capped_total (slice pair64_cmp map.now.entries lo.now hi.now)) }
-{
-    let mut steps = Steps::<C>::start(blank);
-    total_between(alloc, map, lo, hi, &mut steps)
 }

@@ -1,8 +1,10 @@
 //! Points in the plane.
-ghost use Rattle.std.specs.Prelude.{◌≡◌, ◌↔◌, [], length, map, IfOk, IfSome, IsNone};
+ghost use Rattle.std.specs.Prelude.{◌≡◌, ◌↔◌, ℕ, ◌+◌, ◌≤◌, [], length, map, IfOk, IfSome, IsNone};
 ghost use Rattle.aug_monoid.specs.Exact.{pair64_cmp};
+ghost use Rattle.aug_monoid.specs.Fresh.{IsFresh};
 ghost use Rattle.map_model.specs.Entries.{AllKeys, IsIncreasing};
 ghost use Rattle.map_model.specs.Operations.{after, dels, puts};
+ghost use Rattle.range_tree.specs.Costs.{IsHighest, sum_cost};
 ghost use Rattle.range_tree.specs.Listings.{by_rows};
 ghost use Rattle.range_tree.specs.Places.{IsPlace};
 ghost use Rattle.range_tree.specs.Points.{entry_of, inside, point_of, total_of};
@@ -13,11 +15,12 @@ use crate::points::{Point, Rect, Total};
 use crate::rows::{Places, Rows};
 use crate::totals::RowTotal;
 use aug_map::Map;
-use aug_monoid::{NoMemory, Pair64, Share};
+use aug_monoid::{NoMemory, Pair64, Share, Steps};
 use fork_join::{Cut, Gate};
 use row_leaf::RowLeaf;
 use std::alloc::Global;
-use std::marker::{Model, Sync};
+use std::marker::{Brand, Model, Sync};
+use std::sync::ledger::{Blank, Ledger};
 use std::thread::Threads;
 
 /// A map from (x, y) to weight, with the same points by (y, x), in blocks of 64 to 128 points that are stored as gaps between columns.
@@ -126,17 +129,48 @@ impl Points {
         Ok(Points { map })
     }
 
-    /// The total of the points in a rectangle, in about the square of the logarithm of the number of points.
+    /// The total of the points in a rectangle, in about the square of the logarithm of the number of points. It is `sum_counted`
+    /// with a counter that is thrown away.
     pub fn sum(&self, alloc: Global, rect: Rect) -> Result<Total, NoMemory>
         ensures { IfOk result (λ total. total ≡ total_of (inside rect self.now)) }
     {
+        self.sum_with_counter::<Brand>(alloc, rect, Blank::new(1))
+    }
+
+    // The same, with a counter of its own.
+    fn sum_with_counter<C: Ledger>(
+        &self,
+        alloc: Global,
+        rect: Rect,
+        blank: Blank,
+    ) -> Result<Total, NoMemory>
+        requires { IsFresh C.name C.parts blank }
+        ensures { IfOk result (λ total. total ≡ total_of (inside rect self.now)) }
+    {
+        let mut steps = Steps::<C>::start(blank);
+        self.sum_counted(alloc, rect, &mut steps)
+    }
+
+    /// `sum` with its steps counted, those in the rows too: for each `height` that no map of as many points exceeds, at most
+    /// `(4 * height + 257) * (11 * height + 1793) + (2 * height + 256)`.
+    pub fn sum_counted<C: Ledger>(
+        &self,
+        alloc: Global,
+        rect: Rect,
+        steps: &mut Steps<C>,
+    ) -> Result<Total, NoMemory>
+        ensures total { IfOk result (λ total. total ≡ total_of (inside rect self.now)) }
+        ensures cost { (height : ℕ) → IsHighest (length self.now) height → steps.new ≤ steps.old + sum_cost height }
+    {
         let _number = self.map.size(); // for the proof alone: keys rise
+        let _height = self.map.height(); // for the proof alone: how high so many points may be
         let how = RowTotal {
             y1: rect.y1,
             y2: rect.y2,
         };
-        self.map
-            .aug_project(alloc, &least_at(rect.x1), &greatest_at(rect.x2), &how)
+        let lo = least_at(rect.x1);
+        let hi = greatest_at(rect.x2);
+        self.map.aug_project_in_steps(alloc, &lo, &hi, &how, steps)
     }
 
     /// The points in a rectangle by (x, y), in about the time of `sum` and the time to sort them.

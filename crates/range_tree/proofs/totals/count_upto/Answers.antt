@@ -10,16 +10,16 @@ overflow_add-result g c =
     let less : c.rank-less.result ≡ rank pair64_cmp c.args.map.now.entries c.args.key.now = c.rank-less.ensures.value in
     omega (arith, less, rank_fits c.args.map.now.entries c.args.key.now, c.size-number.ensures.value, c.size-number.ensures.fits)
 
-pub returns-in-Some : goal.returns-in-Some
-returns-in-Some g c =
+pub returns-in-Some-clause-count : goal.returns-in-Some-clause-count
+returns-in-Some-clause-count g c =
     let m = c.args.map.now.entries in
     let key = c.args.key.now in
     let less : c.rank-less.result ≡ rank pair64_cmp m key = c.rank-less.ensures.value in
     let found : c.in_ok-get.field-0 ≡ lookup pair64_cmp m key = c.in_ok-get.ensures.value in
     ap (λ n. n + 1) less ∙ counted_found m key c.in-Some.field-0 c.size-number.ensures.increasing (sym c.in-Some.is ∙ found)
 
-pub returns-in-None : goal.returns-in-None
-returns-in-None g c =
+pub returns-in-None-clause-count : goal.returns-in-None-clause-count
+returns-in-None-clause-count g c =
     let m = c.args.map.now.entries in
     let key = c.args.key.now in
     let less : c.rank-less.result ≡ rank pair64_cmp m key = c.rank-less.ensures.value in
