@@ -200,13 +200,20 @@ impl Project<SumMax<u64>> for SumAlone {
 
     ghost combined = { λ _ a b. min (a + b) (2 ^ 64 - 1) };
 
+    ghost IsImageCost = { λ _ _ _. Unit {0} };
+
     ghost image_fits = { λ _ aug fits. fits.0 };
 
     ghost monoid = { λ _. record { unit_fits = omega arith; combine_fits = λ a b f g. omega arith; left_unit = λ a f. omega arith; right_unit = λ a f. omega arith; assoc = λ a b c f g h. omega arith } };
 
     ghost projection = { λ _ l r _. ap (λ aug. aug.sum) (fold-append totals_monoid (λ _ val. totals_base_fits val) l r) };
 
-    fn image(&self, _alloc: Global, aug: &Totals) -> Result<u64, NoMemory> {
+    fn image<C: Ledger>(
+        &self,
+        _alloc: Global,
+        aug: &Totals,
+        _steps: &mut Steps<C>,
+    ) -> Result<u64, NoMemory> {
         Ok(aug.sum)
     }
 
@@ -229,6 +236,21 @@ fn reduced<R: Abort, M: SyncReduce<u64, u64>>(
     how.combine(alloc, both, second).expect(rt, "memory")
 }
 
+fn counted_projection<R: Abort, A: SyncAugment, P: Project<A>, C: Ledger>(
+    rt: &R,
+    alloc: Global,
+    how: &P,
+    parts: (&A::Aug, &A::Aug),
+    blank: Blank,
+) -> P::Out
+    requires { IsFresh C.name C.parts blank }
+{
+    let mut steps = Steps::<C>::start(blank);
+    let first = how.image(alloc, parts.0, &mut steps).expect(rt, "memory");
+    let second = how.image(alloc, parts.1, &mut steps).expect(rt, "memory");
+    how.combine(alloc, first, second).expect(rt, "memory")
+}
+
 fn projected<R: Abort, A: SyncAugment, P: Project<A>>(
     rt: &R,
     alloc: Global,
@@ -236,9 +258,7 @@ fn projected<R: Abort, A: SyncAugment, P: Project<A>>(
     left: &A::Aug,
     right: &A::Aug,
 ) -> P::Out {
-    let first = how.image(alloc, left).expect(rt, "memory");
-    let second = how.image(alloc, right).expect(rt, "memory");
-    how.combine(alloc, first, second).expect(rt, "memory")
+    counted_projection::<R, A, P, Brand>(rt, alloc, how, (left, right), Blank::new(1))
 }
 
 #[test]

@@ -1,11 +1,15 @@
 //! Points in the plane, with sums and lists that were reckoned by hand. Where memory is refused, a test ends here.
-use aug_monoid::{Augment, Leaf, Pair64, Share};
+ghost use Rattle.std.specs.Prelude.{◌+◌, ◌≤◌, length};
+ghost use Rattle.aug_monoid.specs.Fresh.{IsFresh};
+
+use aug_monoid::{Augment, Leaf, NoMemory, Pair64, Share, Steps};
 use fork_join::{Cut, FreeGate};
-use range_tree::{Places, Point, Points, Rect, Rows, points_cross};
+use range_tree::{Places, Point, Points, Rect, Rows, Total, points_cross};
 use row_leaf::RowLeaf;
 use std::alloc::Global;
-use std::marker::Sync;
+use std::marker::{Brand, Sync};
 use std::process::Abort;
+use std::sync::ledger::{Blank, Ledger};
 use std::thread::Threads;
 
 /// Two columns and two rows of points with their weights, one of them set twice.
@@ -84,6 +88,68 @@ fn sums_of_columns_and_rows(rt: HostRuntime) {
     let points = points_of(&rt, rt.alloc(), &FIVE);
     assert_eq!(rt; (points.size(), points.map().size()), (5, 5));
     assert_sums(&rt, rt.alloc(), &points, SUMS);
+}
+
+/// A point in each of so many columns, with row and weight by chance.
+fn scattered<R: Abort>(rt: &R, alloc: Global, columns: u64) -> Vec<Point> {
+    let mut list = Vec::new(alloc);
+    let mut state = 1u64;
+    for x in 0..columns {
+        state = state
+            .wrapping_mul(6364136223846793005)
+            .wrapping_add(1442695040888963407);
+        let y = state >> 54;
+        let weight = (state >> 40) % 100;
+        list.push(Point { x, y, weight }).expect(rt, "memory");
+    }
+    list
+}
+
+/// The sum and the count of the points in a rectangle, by a walk over all.
+fn walked(points: &[Point], rect: Rect) -> (u64, u64) {
+    let mut sum = 0u64;
+    let mut count = 0u64;
+    for point in points {
+        if rect.x1 <= point.x && point.x <= rect.x2 && rect.y1 <= point.y && point.y <= rect.y2 {
+            sum = sum.saturating_add(point.weight);
+            count = count.saturating_add(1);
+        }
+    }
+    (sum, count)
+}
+
+/// The total in a rectangle of at most ten million points, in a tenth of the steps of a walk over them. No test can read a
+/// counter, so this clause counts.
+fn sum_of_many<C: Ledger>(
+    alloc: Global,
+    points: &Points,
+    rect: Rect,
+    steps: &mut Steps<C>,
+) -> Result<Total, NoMemory>
+    ensures { length points.now ≤ 10000000 → steps.new ≤ steps.old + 1000000 }
+{
+    points.sum_counted(alloc, rect, steps)
+}
+
+fn assert_counted<R: Threads + Abort + Sync, C: Ledger>(rt: &R, alloc: Global, blank: Blank)
+    requires { IsFresh C.name C.parts blank }
+{
+    let list = scattered(rt, alloc, 2000);
+    let points = Points::new().add(rt, alloc, &FreeGate, Cut::new(2, 1), &list);
+    let within = rect((100, 1700, 50, 700));
+    let mut steps = Steps::<C>::start(blank);
+    let total = sum_of_many(alloc, &points.expect(rt, "memory"), within, &mut steps);
+    let total = total.expect(rt, "memory");
+    assert_eq!(rt; (total.sum, total.count), walked(&list, within));
+}
+
+fn assert_counts<R: Threads + Abort + Sync>(rt: &R, alloc: Global) {
+    assert_counted::<R, Brand>(rt, alloc, Blank::new(1));
+}
+
+#[test]
+fn a_sum_that_counts_is_that_of_a_walk(rt: HostRuntime) {
+    assert_counts(&rt, rt.alloc());
 }
 
 const LOW: &[(u64, u64, u64)] = &[(1, 1, 10), (1, 2, 20), (2, 1, 30)];

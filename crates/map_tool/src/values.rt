@@ -4,8 +4,9 @@ ghost use Rattle.aug_monoid.specs.declared.totals.Totals.{Totals};
 ghost use Rattle.map_tool.specs.Counts.{CountFits, count_fits, count_monoid};
 ghost use Rattle.map_tool.specs.Greatest.{GreatestFits, greatest_fits, greatest_monoid, greatest_projection, either_passes};
 
-use aug_monoid::{AugTest, NoMemory, Project, Reduce, SumMax, Test, Totals};
+use aug_monoid::{AugTest, NoMemory, Project, Reduce, Steps, SumMax, Test, Totals};
 use std::alloc::Global;
+use std::sync::ledger::Ledger;
 
 /// The values from `lo` to `hi`.
 #[derive(Drop)]
@@ -79,13 +80,20 @@ impl Project<SumMax<u64>> for Greatest {
 
     ghost combined = { λ _ a b. max a b };
 
+    ghost IsImageCost = { λ _ _ _. Unit {0} };
+
     ghost image_fits = { λ _ aug fits. greatest_fits aug fits };
 
     ghost monoid = { λ _. greatest_monoid };
 
     ghost projection = { λ _. greatest_projection };
 
-    fn image(&self, _alloc: Global, aug: &Totals) -> Result<u64, NoMemory> {
+    fn image<C: Ledger>(
+        &self,
+        _alloc: Global,
+        aug: &Totals,
+        _steps: &mut Steps<C>,
+    ) -> Result<u64, NoMemory> {
         Ok(aug.greatest)
     }
 

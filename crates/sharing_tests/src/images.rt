@@ -28,13 +28,20 @@ impl Project<SumMax<u64>> for Zeros {
 
     ghost combined = { λ _ a b. max a b };
 
+    ghost IsImageCost = { λ _ _ _. Unit {0} };
+
     ghost image_fits = { λ _ _ _. tt };
 
     ghost monoid = { λ _. record { unit_fits = tt; combine_fits = λ _ _ _ _. tt; left_unit = λ a f. omega arith; right_unit = λ a f. omega arith; assoc = λ a b c f g h. omega arith } };
 
     ghost projection = { λ _ _ _ _. refl };
 
-    fn image(&self, _alloc: Global, _aug: &Totals) -> Result<u64, NoMemory> {
+    fn image<C: Ledger>(
+        &self,
+        _alloc: Global,
+        _aug: &Totals,
+        _steps: &mut Steps<C>,
+    ) -> Result<u64, NoMemory> {
         self.taken.fetch_add(1, Ordering::SeqCst);
         Ok(0)
     }

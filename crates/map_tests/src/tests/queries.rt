@@ -43,13 +43,20 @@ impl Project<SumMax<u64>> for Greatest {
 
     ghost combined = { λ _ a b. max a b };
 
+    ghost IsImageCost = { λ _ _ _. Unit {0} };
+
     ghost image_fits = { λ _ aug fits. fits.1 };
 
     ghost monoid = { λ _. record { unit_fits = omega arith; combine_fits = λ a b f g. omega arith; left_unit = λ a f. omega arith; right_unit = λ a f. omega arith; assoc = λ a b c f g h. omega arith } };
 
     ghost projection = { λ _ l r _. ap (λ aug. aug.greatest) (fold-append totals_monoid (λ _ val. totals_base_fits val) l r) };
 
-    fn image(&self, _alloc: Global, aug: &Totals) -> Result<u64, NoMemory> {
+    fn image<C: Ledger>(
+        &self,
+        _alloc: Global,
+        aug: &Totals,
+        _steps: &mut Steps<C>,
+    ) -> Result<u64, NoMemory> {
         Ok(aug.greatest)
     }
 
