@@ -1,8 +1,14 @@
 -- Sums and greatest numbers are alike in either order, and so are two that are, side by side.
-use Rattle.std.specs.Prelude.{◌≡◌, ℕ, max, Option, Some, None, refl}
-use Rattle.std.proofs.Common.{ap, ap₂, arith}
+use Rattle.std.specs.Prelude.{◌≡◌, cond, Some, None, refl}
+use Rattle.std.specs.Cmp.{IsTotalOrder}
+use Rattle.std.specs.Ordering.{is_lt}
+use Rattle.std.specs.declared.cmp.Ordering.{Ordering}
+use Rattle.std.proofs.Common.{ap, ap₂, arith, sym, ◌∙◌}
+use Rattle.map_model.specs.Order.{IsExact}
+use Rattle.map_model.proofs.Keys.{by_order, greater, lesser}
 use Rattle.aug_monoid.specs.Commuting.{IsCommutativeOver}
 use Rattle.aug_monoid.specs.Greatest.{greater_of}
+use Rattle.aug_monoid.specs.Later.{later, later_of}
 use Rattle.aug_monoid.specs.PairLaws.{PairFits, pair_combine, pair_same}
 use Rattle.aug_monoid.specs.Totals.{TotalsFit, totals, totals_combine}
 
@@ -14,6 +20,21 @@ greater_commutes None None _ _ = refl
 greater_commutes None (Some y) _ _ = refl
 greater_commutes (Some x) None _ _ = refl
 greater_commutes (Some x) (Some y) _ _ = ap (λ n. Some n) (omega arith)
+
+-- the later of two things, of which those that are equal in the order are one
+module _ {X : Type 0} {order : X → X → Ordering} (total : IsTotalOrder order) (exact : IsExact order) where
+  later_either : (x y : X) → later order x y ≡ later order y x
+  later_either x y =
+      by_order order x y
+      (λ less. ap (λ o. cond (is_lt o) y x) less ∙ sym (ap (λ o. cond (is_lt o) x y) (greater total x y less)))
+      (λ equal. ap (λ z. later order z y) (exact x y equal) ∙ ap (λ z. later order y z) (sym (exact x y equal)))
+      (λ more. ap (λ o. cond (is_lt o) y x) more ∙ sym (ap (λ o. cond (is_lt o) x y) (lesser total x y more)))
+
+  pub later_commutes : IsCommutativeOver (λ _. Unit {0}) (later_of order)
+  later_commutes None None _ _ = refl
+  later_commutes None (Some y) _ _ = refl
+  later_commutes (Some x) None _ _ = refl
+  later_commutes (Some x) (Some y) _ _ = ap (λ p. Some p) (later_either x y)
 
 pub nothing_commutes : IsCommutativeOver {X = Unit {0}} (λ _. Unit {0}) (λ _ _. tt)
 nothing_commutes a b f g = refl

@@ -2,7 +2,8 @@
 ghost use Rattle.std.specs.Prelude.{◌≡◌, ◌+◌, None, Some, IfOk, IsOk};
 ghost use Rattle.std.specs.Ordering.{flip_args, on};
 ghost use Rattle.std.proofs.lemmas.Cmp.{back_total, on_total};
-ghost use Rattle.map_folds.specs.Later.{by_value, later_of, later_monoid};
+ghost use Rattle.aug_monoid.specs.Later.{later_of, later_monoid};
+ghost use Rattle.map_folds.specs.Later.{by_value};
 
 use crate::taking::{greater_entry, lesser_entry};
 use aug_monoid::{Augment, Key, NoMemory, Share, Steps, share_entry};

@@ -2,10 +2,10 @@
 ghost use Rattle.std.specs.Prelude.{◌≡◌, ◌+◌, None, Some, IfOk, IsOk};
 ghost use Rattle.std.specs.Ordering.{flip_args};
 ghost use Rattle.std.proofs.lemmas.Cmp.{back_total};
-ghost use Rattle.map_folds.specs.Later.{later_of, later_monoid};
+ghost use Rattle.aug_monoid.specs.Later.{later_of, later_monoid};
 
-use crate::taking::{greater_shared, lesser_shared};
-use aug_monoid::{Augment, Key, NoMemory, Share, Steps};
+use crate::taking::lesser_shared;
+use aug_monoid::{Augment, Key, NoMemory, Share, Steps, greater_shared};
 use std::alloc::Global;
 use std::marker::PhantomData;
 use std::sync::ledger::Ledger;

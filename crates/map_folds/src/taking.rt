@@ -1,29 +1,12 @@
-//! The lesser or the greater of two values or entries that may be absent, the first where the values are equal.
+//! The lesser of two values, and the lesser or the greater of two entries, that may be absent; the first where the values are equal.
 ghost use Rattle.std.specs.Prelude.{◌≡◌, IfOk, IsOk};
 ghost use Rattle.std.specs.Ordering.{flip_args};
-ghost use Rattle.map_folds.specs.Later.{by_value, later_of};
+ghost use Rattle.aug_monoid.specs.Later.{later_of};
+ghost use Rattle.map_folds.specs.Later.{by_value};
 
 use aug_monoid::{NoMemory, Share};
 use std::alloc::Global;
 use std::cmp::Ordering;
-
-pub(crate) fn greater_shared<V: Share + Ord>(
-    alloc: Global,
-    a: &Option<V>,
-    b: &Option<V>,
-) -> Result<Option<V>, NoMemory>
-    ensures value { IfOk result (λ val. val ≡ later_of V.cmp a.now b.now) }
-    ensures succeeds { V.never_refuses → IsOk result }
-{
-    match (a, b) {
-        (None, _) => b.share(alloc),
-        (_, None) => a.share(alloc),
-        (Some(x), Some(y)) => match x.cmp(y) {
-            Ordering::Less => b.share(alloc),
-            _ => a.share(alloc),
-        },
-    }
-}
 
 pub(crate) fn lesser_shared<V: Share + Ord>(
     alloc: Global,
