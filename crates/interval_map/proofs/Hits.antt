@@ -14,6 +14,7 @@ use Rattle.map_model.specs.Fold.{aug_filter, fold_of}
 use Rattle.map_model.specs.Parts.{left_of, slice}
 use Rattle.interval_map.specs.Ends.{reaches, reaches_either}
 use Rattle.interval_map.specs.Intervals.{IsInterval, contained, interval, overlap}
+use Rattle.interval_map.proofs.Found.{some_of, some_of_is}
 
 -- an interval is at most the one that begins at p and ends last where it begins at most at p
 begins_by : (p : ℕ) (i : Pair64) → i.second < 2 ^ 64 → is_le (pair64_cmp i (interval p (2 ^ 64 - 1))) ≡ nat_le i.first p
@@ -27,15 +28,6 @@ begins_from i = grind (arith, nat_tests)
 begins_within : (lo hi : ℕ) (i : Pair64) → i.first ≤ i.second → i.second < 2 ^ 64
     → ((is_le (pair64_cmp (interval lo 0) i) && not (is_lt (pair64_cmp (interval hi (2 ^ 64 - 1)) i))) && nat_le i.second hi) ≡ (nat_le lo i.first && nat_le i.second hi)
 begins_within lo hi i ends fits = grind (arith, nat_tests)
-
--- whether a list has an item
-abbrev some_of : {X : Type 0} → List X → Bool
-some_of [] = false
-some_of (x ∷ xs) = true
-
-some_of_is : {X : Type 0} (xs : List X) → (some_of xs ≡ true) ↔ ¬ (xs ≡ [])
-some_of_is [] = (λ h. cc, λ h. absurd (h refl))
-some_of_is (x ∷ xs) = (λ h e. cc, λ h. refl)
 
 module _ {V : Type 0} where
   -- the intervals that begin at most at hi, and of these the ones that end at least at lo
