@@ -4,6 +4,8 @@
 #![tactic(auto)]
 
 #[cfg(test)]
+mod bookings;
+#[cfg(test)]
 mod components;
 #[cfg(test)]
 mod doc_batches;
