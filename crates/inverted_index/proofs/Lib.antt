@@ -7,6 +7,7 @@ pub mod Ranked
 pub mod ByWeight
 pub mod Tallies
 pub mod Texts
+pub mod TopCosts
 pub mod Found
 pub mod Steps
 pub mod Batches

@@ -2,6 +2,7 @@ pub mod Terms
 pub mod Queries
 pub mod Documents
 pub mod Ranks
+pub mod Costs
 pub mod Faults
 pub mod Merging
 pub mod Added

@@ -1,5 +1,5 @@
 //! Postings that are found.
-ghost use Rattle.std.specs.Prelude.{◌≡◌, ℕ, List, IfOk, IsPermutation, length, map, []};
+ghost use Rattle.std.specs.Prelude.{◌≡◌, ◌+◌, ◌≤◌, ℕ, List, IfOk, IsPermutation, length, map, []};
 ghost use Rattle.std.specs.List.Sorted.{IsNonDecreasingBy};
 ghost use Rattle.std.specs.Ordering.{nat_cmp};
 ghost use Rattle.map_model.specs.Entries.{IsIncreasing};
@@ -25,7 +25,8 @@ pub(crate) fn find_list<C: Ledger>(
     term: &Term,
     steps: &mut Steps<C>,
 ) -> Result<Postings, NoMemory>
-    ensures { IfOk result (λ postings. postings ≡ postings_at lists.now.entries term.now) }
+    ensures postings { IfOk result (λ postings. postings ≡ postings_at lists.now.entries term.now) }
+    ensures cost { steps.new ≤ steps.old + (lists.now.height + 9) }
 {
     match lists.get(alloc, term, steps)? {
         Some(postings) => Ok(postings),

@@ -1,10 +1,13 @@
 //! An index of a few texts. What is expected was counted by hand. Where memory is refused, a test ends here.
-use aug_monoid::{NoMemory, Share};
+ghost use Rattle.aug_monoid.specs.Fresh.{IsFresh};
+
+use aug_monoid::{NoMemory, Share, Steps};
 use fork_join::{Cut, FreeGate};
 use inverted_index::{Added, Hit, Index, Term, TermFault};
 use std::alloc::Global;
-use std::marker::Sync;
+use std::marker::{Brand, Sync};
 use std::process::Abort;
+use std::sync::ledger::{Blank, Ledger};
 use std::thread::Threads;
 
 /// Documents in the order in which they are added.
@@ -241,6 +244,42 @@ fn assert_top<R: Abort>(rt: &R, alloc: Global, index: &Index) {
 fn documents_by_falling_weight(rt: HostRuntime) {
     let index = indexed(&rt, rt.alloc());
     assert_top(&rt, rt.alloc(), &index);
+}
+
+/// A text of which the n-th document has `n % 7 + 1` words.
+const OWLS: &[u8] = b"owl owl owl owl owl owl owl";
+
+/// So many documents that the heaviest are searched one by one, and not all sorted.
+fn many_documents<R: Threads + Abort + Sync>(rt: &R, alloc: Global) -> Index {
+    let mut index = Index::new();
+    for doc in 0..200 {
+        let words = (doc % 7 * 4 + 3) as usize;
+        index = with_text(rt, alloc, index, doc, &OWLS[..words]);
+    }
+    index
+}
+
+/// Of more than 100 documents the first two, and of few all.
+fn assert_top_counted<R: Abort, C: Ledger>(rt: &R, alloc: Global, index: &Index, blank: Blank)
+    requires { IsFresh C.name C.parts blank }
+{
+    let mut steps = Steps::<C>::start(blank);
+    let owl = term(rt, alloc, b"owl");
+    assert_hits(
+        rt,
+        index.top_counted(alloc, 2, &owl, &mut steps),
+        &[(6, 7), (13, 7)],
+    );
+    assert_hits(rt, index.top_counted(alloc, 0, &owl, &mut steps), &[]);
+}
+
+fn assert_top_counts<R: Threads + Abort + Sync>(rt: &R, alloc: Global) {
+    assert_top_counted::<R, Brand>(rt, alloc, &many_documents(rt, alloc), Blank::new(1));
+}
+
+#[test]
+fn the_heaviest_of_many_documents_one_by_one(rt: HostRuntime) {
+    assert_top_counts(&rt, rt.alloc());
 }
 
 /// The documents that have a term, counted.

@@ -1,7 +1,4 @@
 use Rattle.inverted_index.proofs.index.Index.top.Given as goal
 
-abbrev pub ghosts-find_one : goal.ghosts-find_one
-ghosts-find_one a = record { name = a.blank.name; parts = a.blank.parts }
-
-abbrev pub ghosts-top : goal.ghosts-top
-ghosts-top a = record { name = a.blank.name; parts = a.blank.parts }
+abbrev pub ghosts-top_with_counter : goal.ghosts-top_with_counter
+ghosts-top_with_counter a = record { name = a.blank.name; parts = a.blank.parts }
