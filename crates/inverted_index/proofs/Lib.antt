@@ -15,3 +15,4 @@ pub mod Batched
 pub mod Contents
 pub mod Crosses
 pub mod Removed
+pub mod Prefixes

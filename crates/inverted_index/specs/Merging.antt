@@ -1,9 +1,11 @@
 -- Postings that are made, found and brought together.
-use Rattle.std.specs.Prelude.{ℕ, ◌+◌, ◌-◌, ◌^◌, List, [], ◌∷◌, min, unwrap_or}
+use Rattle.std.specs.Prelude.{ℕ, ◌+◌, ◌-◌, ◌^◌, List, [], ◌∷◌, filter, min, unwrap_or}
 use Rattle.std.specs.List.{fold}
+use Rattle.std.specs.Map.{keys_of}
 use Rattle.std.specs.Ordering.{nat_cmp}
 use Rattle.map_model.specs.Entries.{lookup}
 use Rattle.map_model.specs.SetOperations.{intersect, union}
+use Rattle.inverted_index.specs.Queries.{begins}
 use Rattle.inverted_index.specs.Terms.{bytes_cmp}
 
 -- each term with its postings
@@ -34,3 +36,7 @@ common_of known (p ∷ lists) = common p lists
 -- the documents that one of the lists has, or a, with the sums of their weights
 abbrev pub union_all : List (ℕ × ℕ) → List (List (ℕ × ℕ)) → List (ℕ × ℕ)
 union_all a lists = fold (λ x p. union nat_cmp sat x p) a lists
+
+-- the terms of lists that begin with some bytes
+abbrev pub terms_with : List ℕ → Lists → List (List ℕ)
+terms_with front lists = keys_of (filter (λ e. begins front e.0) lists)

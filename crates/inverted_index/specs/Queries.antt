@@ -1,11 +1,11 @@
 -- What documents answer. A document is its number and its terms with their weights; an answer is a list of documents' numbers and weights.
-use Rattle.std.specs.Prelude.{◌≡◌, ℕ, ◌-◌, ◌^◌, ◌==◌, ◌&&◌, ◌||◌, List, [], ◌∷◌, Option, Some, None, Bool, cond, map, filter, min, nat_lt, nat_le, is_some, unwrap_or, sum_by, take, not}
-use Rattle.std.specs.List.{list_all, list_any}
+use Rattle.std.specs.Prelude.{◌≡◌, ℕ, ◌-◌, ◌^◌, ◌==◌, ◌&&◌, ◌||◌, ◌↔◌, List, [], ◌∷◌, Option, Some, None, Bool, IsTrue, cond, map, filter, min, nat_eq, nat_lt, nat_le, is_some, unwrap_or, sum_by, take, not}
+use Rattle.std.specs.List.{Contains, list_all, list_any, starts_with}
 use Rattle.std.specs.List.Sorted.{IsPermutation, IsStrictlySortedBy}
 use Rattle.std.specs.Ordering.{nat_cmp, ordering_then}
 use Rattle.std.specs.declared.cmp.Ordering.{Ordering}
 use Rattle.map_model.specs.Entries.{lookup}
-use Rattle.inverted_index.specs.Terms.{bytes_cmp}
+use Rattle.inverted_index.specs.Terms.{IsTerm, bytes_cmp}
 use Rattle.inverted_index.specs.declared.hit.Hit.{Hit}
 
 abbrev pub Document : Type 0
@@ -92,3 +92,21 @@ pub record AreTop (m : List (ℕ × ℕ)) (k : ℕ) (hits : List Hit) : Type 0 w
   pub ranking : List (ℕ × ℕ)
   pub by_rank : IsRanking m ranking
   pub first : hits ≡ hits_of (take k ranking)
+
+-- whether some document has a term
+abbrev pub is_had : List Document → List ℕ → Bool
+is_had ds term = list_any (has term) ds
+
+-- the terms that some document has, each once, in the order of bytes
+pub record AreTerms (ds : List Document) (terms : List (List ℕ)) : Type 0 where
+  pub order : IsStrictlySortedBy bytes_cmp terms
+  pub those : (term : List ℕ) → Contains terms term ↔ IsTrue (is_had ds term)
+
+-- whether bytes begin with others
+abbrev pub begins : List ℕ → List ℕ → Bool
+begins front bytes = starts_with nat_eq bytes front
+
+-- those of them that begin with some bytes
+pub record AreTermsFrom (ds : List Document) (front : List ℕ) (terms : List (List ℕ)) : Type 0 where
+  pub order : IsStrictlySortedBy bytes_cmp terms
+  pub those : (term : List ℕ) → IsTerm term → Contains terms term ↔ IsTrue (begins front term && is_had ds term)

@@ -2,7 +2,7 @@
 //!
 //! An `Index` is a map from terms to `Postings`, the maps from documents to weights, whose fold has the greatest weight.
 //! Documents are added one at a time or in batches (`add_doc`, `add_docs`), a term's weight being how often the text has it.
-//! `remove_doc` and `replace_doc` take one out again, and `has_doc` and `doc_freq` tell what there is.
+//! `remove_doc` and `replace_doc` take one out again; `size`, `has_doc`, `doc_freq`, `terms` and `terms_from` tell what there is.
 //! `all_of`, `any_of` and `without` intersect, unite and take away postings; `top` answers the first documents by falling weight.
 //! An index is persistent: each answer shares what it can with the index before. A call refuses only for want of memory.
 //!
@@ -16,6 +16,7 @@ mod doc;
 mod finding;
 mod hit;
 mod index;
+mod listing;
 mod marking;
 mod postings;
 mod queries;

@@ -298,6 +298,74 @@ fn documents_that_have_a_term_are_counted(rt: HostRuntime) {
     assert_counted(&rt, rt.alloc(), &index);
 }
 
+/// Asserts what the bytes of terms are.
+fn assert_words<R: Abort>(rt: &R, found: Result<Vec<Term>, NoMemory>, wanted: &[&[u8]]) {
+    let found = found.expect(rt, "memory");
+    assert_eq!(rt; found.len(), wanted.len());
+    for (term, word) in found.iter().zip(wanted) {
+        assert_eq!(rt; term.bytes(), *word);
+    }
+}
+
+/// All terms of the texts.
+const TERMS: &[&[u8]] = &[b"be", b"not", b"or", b"r2d2", b"to", b"yet"];
+
+#[test]
+fn terms_by_their_bytes(rt: HostRuntime) {
+    let index = indexed(&rt, rt.alloc());
+    assert_words(&rt, index.terms(rt.alloc()), TERMS);
+    let none = Index::new();
+    assert_words(&rt, none.terms(rt.alloc()), &[]);
+}
+
+/// Prefixes, and the terms that begin with them.
+const FROM: &[(&[u8], &[&[u8]])] = &[
+    (
+        b"",
+        &[b"an", b"and", b"ant", b"anthem", b"any", b"art", b"bee"],
+    ),
+    (b"an", &[b"an", b"and", b"ant", b"anthem", b"any"]),
+    (b"aNT", &[b"ant", b"anthem"]),
+    (b"b", &[b"bee"]),
+    (b"ants", &[]),
+    (b"bees", &[]),
+    (b"an,", &[]),
+];
+
+fn assert_from<R: Threads + Abort + Sync>(rt: &R, alloc: Global) {
+    let index = with_text(rt, alloc, Index::new(), 2, b"any ant and an anthem");
+    let index = with_text(rt, alloc, index, 1, b"art: bee and ant");
+    for (prefix, wanted) in FROM {
+        assert_words(rt, index.terms_from(alloc, prefix), wanted);
+    }
+}
+
+#[test]
+fn terms_that_begin_with_a_prefix(rt: HostRuntime) {
+    assert_from(&rt, rt.alloc());
+}
+
+/// Documents of one term each, of two letters: aa to hz.
+fn of_two_letters<R: Threads + Abort + Sync>(rt: &R, alloc: Global) -> Index {
+    let mut index = Index::new();
+    for number in 0..208u8 {
+        let word = [b'a' + number / 26, b'a' + number % 26];
+        index = with_text(rt, alloc, index, u64::from(number), &word);
+    }
+    index
+}
+
+/// The last term that begins with c.
+const LAST: &[&[u8]] = &[b"cz"];
+
+#[test]
+fn terms_of_many_blocks_that_begin_with_a_prefix(rt: HostRuntime) {
+    let index = of_two_letters(&rt, rt.alloc());
+    let found = index.terms_from(rt.alloc(), b"c").expect(&rt, "memory");
+    assert_eq!(rt; found.len(), 26);
+    assert_words(&rt, index.terms_from(rt.alloc(), b"cz"), LAST);
+}
+
 /// Numbers, and whether the documents are there.
 const THERE: &[(u64, bool)] = &[(6, true), (9, true), (0, false), (u64::MAX, false)];
 

@@ -29,7 +29,20 @@ fn term(alloc: Global, word: &[u8]) -> Result<Term> {
     }
 }
 
-/// Which notes have both of two words, one and not another, and one most often.
+// The words of terms, a comma between two.
+fn words_of(alloc: Global, terms: &[Term]) -> Result<String> {
+    let mut words = String::new(alloc);
+    for term in terms {
+        if !words.is_empty() {
+            words.push_str(", ")?;
+        }
+        let word = str::from_utf8(term.bytes())?;
+        words.push_str(word)?;
+    }
+    Ok(words)
+}
+
+/// Which notes have both of two words, one and not another, and one most often, and which words begin with some letters.
 pub(crate) fn page<R: Threads + Sync>(rt: &R, alloc: Global) -> Result<String> {
     let cut = Cut::new(1, 1024);
     let mut docs = Vec::new(alloc);
@@ -43,8 +56,9 @@ pub(crate) fn page<R: Threads + Sync>(rt: &R, alloc: Global) -> Result<String> {
     let best = index.top(alloc, 3, &honey)?;
     let without = index.without(rt, alloc, &FreeGate, cut, &cake, &honey)?;
     let both = index.all_of(rt, alloc, &FreeGate, cut, &[honey, cake])?;
+    let words = words_of(alloc, &index.terms_from(alloc, b"al")?)?;
     let text = format!(in alloc;
-        "honey and cake: {both:?}\ncake without honey: {without:?}\nmost honey: {best:?}\n"
+        "honey and cake: {both:?}\ncake without honey: {without:?}\nmost honey: {best:?}\nbegin with al: {words}\n"
     )?;
     Ok(text)
 }
