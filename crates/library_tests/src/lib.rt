@@ -16,6 +16,8 @@ mod graphs;
 #[cfg(test)]
 mod intervals;
 #[cfg(test)]
+mod orders;
+#[cfg(test)]
 mod points;
 #[cfg(test)]
 mod shortest_first;

@@ -1,0 +1,10 @@
+mod Elements
+mod Marks
+mod Open
+mod Searching
+mod Measure
+mod Cycles
+mod Nexts
+mod Steps
+mod Going
+mod Sources
