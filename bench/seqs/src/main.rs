@@ -9,11 +9,13 @@ use std::time::Instant;
 /// How many sequences there are of which pairs are appended.
 const PIECES: u64 = 100;
 
-/// What the operations ask of a sequence, none of which changes it.
+/// What the operations ask of a sequence, of which `push` and `set` alone change it.
 trait Sequence: Sized {
     fn built(items: &[u64]) -> Self;
     fn size(&self) -> u64;
     fn at(&self, place: u64) -> Option<u64>;
+    fn push(&mut self, item: u64);
+    fn set(&mut self, place: u64, item: u64);
     fn appended(&self, other: &Self) -> Self;
     fn turned(&self) -> Self;
     fn run(&self, from: u64, count: u64) -> impl Iterator<Item = u64>;
@@ -30,6 +32,14 @@ impl Sequence for Vec<u64> {
 
     fn at(&self, place: u64) -> Option<u64> {
         self.get(place as usize).copied()
+    }
+
+    fn push(&mut self, item: u64) {
+        Vec::push(self, item);
+    }
+
+    fn set(&mut self, place: u64, item: u64) {
+        self[place as usize] = item;
     }
 
     fn appended(&self, other: &Self) -> Self {
@@ -59,6 +69,14 @@ impl Sequence for Vector<u64> {
 
     fn at(&self, place: u64) -> Option<u64> {
         self.get(place as usize).copied()
+    }
+
+    fn push(&mut self, item: u64) {
+        self.push_back(item);
+    }
+
+    fn set(&mut self, place: u64, item: u64) {
+        Vector::set(self, place as usize, item);
     }
 
     fn appended(&self, other: &Self) -> Self {
@@ -103,6 +121,26 @@ fn reverse<S: Sequence>(numbers: &mut Numbers, size: u64) {
     let seq: S = random(numbers, size);
     let start = Instant::now();
     made(&seq.turned(), start);
+}
+
+fn push<S: Sequence>(numbers: &mut Numbers, size: u64) {
+    let items = items(numbers, size);
+    let start = Instant::now();
+    let mut seq = S::built(&[]);
+    for item in items {
+        seq.push(item);
+    }
+    made(&seq, start);
+}
+
+/// As many items at random places as there are.
+fn set<S: Sequence>(numbers: &mut Numbers, size: u64) {
+    let mut seq: S = random(numbers, size);
+    let start = Instant::now();
+    for item in 0..size {
+        seq.set(numbers.below(size), item);
+    }
+    made(&seq, start);
 }
 
 fn append<S: Sequence>(numbers: &mut Numbers, size: u64) {
@@ -150,6 +188,8 @@ fn run<S: Sequence>(operation: &str, size: u64, seed: u64) {
     let mut numbers = Numbers::new(seed);
     match operation {
         "build" => build::<S>(&mut numbers, size),
+        "push" => push::<S>(&mut numbers, size),
+        "set" => set::<S>(&mut numbers, size),
         "append" => append::<S>(&mut numbers, size),
         "reverse" => reverse::<S>(&mut numbers, size),
         "at" => at::<S>(&mut numbers, size),

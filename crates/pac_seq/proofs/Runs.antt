@@ -1,7 +1,7 @@
--- Runs of items, and changes of one, around an item between two lists.
-use Rattle.std.proofs.Common.{◌≡◌, ℕ, suc, ◌+◌, ◌-◌, ◌<◌, ◌≤◌, min, List, [], ◌∷◌, ◌++◌, length, take, drop, set, refl, sym, ap, ap₂, ◌∙◌, inl, inr, arith, length-drop}
+-- Runs of items around an item between two lists.
+use Rattle.std.proofs.Common.{◌≡◌, ℕ, ◌+◌, ◌-◌, ◌<◌, ◌≤◌, min, List, [], ◌∷◌, ◌++◌, length, take, drop, sym, ap, ap₂, ◌∙◌, inl, inr, arith, length-drop}
 use Rattle.std.proofs.lemmas.Bool.{cases_lt}
-use Rattle.std.proofs.lemmas.List.{drop-append-le, drop_all, take_all, take_min, set-append_right}
+use Rattle.std.proofs.lemmas.List.{drop-append-le, drop_all, take_all, take_min}
 use Rattle.seq_core.proofs.Parts.{take-around}
 
 -- a run that has the item
@@ -29,8 +29,3 @@ run-within es from count =
           let no_count : min count 0 ≡ 0 = omega arith in
           rw (is, none, no_count, drop_all from es past) (sym (take_all count [] (omega arith)))
     ]
-
-pub set-around : {E : Type 0} (l : List E) (e : E) (r : List E) (i : ℕ) (x : E) → length l < i → set (l ++ e ∷ r) i x ≡ l ++ e ∷ set r (i - length l - 1) x
-set-around l e r i x past =
-    let is : i - length l ≡ suc (i - length l - 1) = omega arith in
-    set-append_right l (e ∷ r) (length l) i x refl (omega arith) ∙ ap (λ n. l ++ set (e ∷ r) n x) is

@@ -1,5 +1,5 @@
 //! Items that come and go at a place or at an end, runs of items, and the items as a list.
-ghost use Rattle.std.specs.Prelude.{◌≡◌, ◌+◌, ◌-◌, [], ◌∷◌, ◌++◌, drop, length, slice_get, take, IfOk, IfSome};
+ghost use Rattle.std.specs.Prelude.{◌≡◌, ◌+◌, ◌-◌, [], ◌∷◌, ◌++◌, drop, length, slice_get, take, IfOk, IfSome, OnErr};
 ghost use Rattle.std.specs.Option.{option_map};
 ghost use Rattle.pac_seq.specs.Ends.{last_of};
 
@@ -50,6 +50,18 @@ impl<F: Fold, S: BlockSize> SeqOver<F, S> {
         ensures { IfOk result (λ seq. seq.items ≡ self.now.items ++ item ∷ []) }
     {
         self.insert(alloc, self.size(), item)
+    }
+
+    /// Puts an item behind the last. What this sequence alone owns is changed in place, and the rest of one path and one block is
+    /// copied, so that shares of the sequence stay as they were. After a refusal it is as it was. O(log n), amortized, where it owns
+    /// all of its blocks and nodes alone; else O(log n + B).
+    ///
+    ///     text.push_mut(alloc, b'!')?;
+    pub fn push_mut(&mut self, alloc: Global, item: F::Item) -> Result<(), NoMemory>
+        ensures items { IfOk result (λ _. self.new.items ≡ self.old.items ++ item ∷ []) }
+        ensures kept { OnErr result (self.new ≡ self.old) }
+    {
+        seq_core::push_mut(alloc, &mut self.tree, item)
     }
 
     /// The first item; none exactly where there are no items. It takes no memory. O(log n).

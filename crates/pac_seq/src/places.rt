@@ -1,11 +1,10 @@
 //! Single items by their places.
-ghost use Rattle.std.specs.Prelude.{◌≡◌, ◌*◌, ◌<◌, ◌≤◌, ◌↔◌, Some, drop, length, slice_get, slice_set, IfOk, IsNone};
-ghost use Rattle.map_model.specs.Balance.{IsBlockSize};
+ghost use Rattle.std.specs.Prelude.{◌≡◌, ◌<◌, ◌≤◌, ◌↔◌, Some, drop, length, slice_get, slice_set, IfOk, IsNone, OnErr};
 ghost use Rattle.pac_seq.specs.Seats.{IsFront, items_at};
 
 use crate::seq::SeqOver;
 use aug_monoid::NoMemory;
-use seq_core::{BlockSize, Fold, Look, Part, SeqTree, copy_items, join, share_item};
+use seq_core::{BlockSize, Fold, Look, Part, SeqTree, set_at, share_item};
 use std::alloc::Global;
 
 /// Where an item stands: first in what is left of a block, or between the sides of a node.
@@ -61,57 +60,6 @@ fn item_at<'a, F: Fold, S: BlockSize>(tree: &'a SeqTree<F, S>, place: u64) -> &'
     }
 }
 
-/// A block with another item at a place.
-fn set_in_block<F: Fold, S: BlockSize>(
-    alloc: Global,
-    items: &[F::Item],
-    place: u64,
-    item: F::Item,
-) -> Result<SeqTree<F, S>, NoMemory>
-    requires block_size { IsBlockSize S.SIZE }
-    requires short { length items.now ≤ 2 * S.SIZE }
-    requires within { place < length items.now }
-    ensures { IfOk result (λ tree. tree.items ≡ slice_set items.now place item) }
-{
-    let mut copy = copy_items::<F>(alloc, items)?;
-    copy[place as usize] = item;
-    SeqTree::from_few(alloc, copy)
-}
-
-/// The sequence with another item at a place.
-fn set_at<F: Fold, S: BlockSize>(
-    alloc: Global,
-    part: Part<'_, F, S>,
-    place: u64,
-    item: F::Item,
-) -> Result<SeqTree<F, S>, NoMemory>
-    requires { place < length part.tree.now.items }
-    ensures { IfOk result (λ tree. tree.items ≡ slice_set part.entry.tree.now.items place item) }
-{
-    match part.tree.look() {
-        Look::Empty => unreachable!(),
-        Look::Block { items } => set_in_block(alloc, items, place, item),
-        Look::Node {
-            before,
-            left,
-            item: middle,
-            right,
-        } => {
-            if place == before {
-                return join(alloc, left, item, right);
-            }
-            let middle = share_item::<F>(alloc, middle);
-            if place < before {
-                let left = set_at(alloc, Part { tree: left }, place, item)?;
-                join(alloc, &left, middle, right)
-            } else {
-                let right = set_at(alloc, Part { tree: right }, place - before - 1, item)?;
-                join(alloc, left, middle, &right)
-            }
-        }
-    }
-}
-
 impl<F: Fold, S: BlockSize> SeqOver<F, S> {
     /// The item at a place, counted from 0; none exactly where the place is at least the size. It takes no memory. O(log n) in n
     /// items.
@@ -133,5 +81,17 @@ impl<F: Fold, S: BlockSize> SeqOver<F, S> {
     {
         let tree = set_at(alloc, Part { tree: &self.tree }, place, item)?;
         Ok(SeqOver { tree })
+    }
+
+    /// Sets the item at a place. What this sequence alone owns is changed in place, and the rest of one path and one block is
+    /// copied, so that shares of the sequence stay as they were. After a refusal it is as it was. O(log n + B) in n items.
+    ///
+    ///     text.set_mut(alloc, 0, b'H')?;
+    pub fn set_mut(&mut self, alloc: Global, place: u64, item: F::Item) -> Result<(), NoMemory>
+        requires { place < length self.old.items }
+        ensures items { IfOk result (λ _. self.new.items ≡ slice_set self.old.items place item) }
+        ensures kept { OnErr result (self.new ≡ self.old) }
+    {
+        seq_core::set_mut(alloc, &mut self.tree, place, item)
     }
 }

@@ -6,6 +6,7 @@
 #![tactic(auto)]
 
 mod asking;
+mod changing;
 mod checksum;
 mod making;
 mod numbers;
@@ -42,6 +43,8 @@ fn run<R: Threads + Clock + Sync>(
 ) -> Result<Timed> {
     match name {
         "build" => making::time_build(on.rt, alloc, size, seed),
+        "push" => changing::time_push(on.rt, alloc, size, seed),
+        "set" => changing::time_set(on.rt, alloc, size, seed),
         "append" => making::time_append(on.rt, alloc, size, seed),
         "reverse" => making::time_reverse(on, alloc, size, seed),
         "at" => asking::time_at(on.rt, alloc, size, seed),

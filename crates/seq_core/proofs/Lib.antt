@@ -2,3 +2,5 @@ pub mod Sums
 pub mod Parts
 mod Nodes
 mod Beside
+mod Owned
+mod Changed

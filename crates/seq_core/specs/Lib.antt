@@ -5,3 +5,5 @@ pub mod Sides
 pub mod Shape
 pub mod Top
 pub mod Look
+pub mod Room
+pub mod Refreshed

@@ -12,7 +12,7 @@ use std::alloc::Global;
 use std::sync::Arc;
 
 /// A sequence has fewer items than this.
-const MOST_ITEMS: u64 = 0x1000_0000_0000_0000;
+pub(crate) const MOST_ITEMS: u64 = 0x1000_0000_0000_0000;
 
 fn owned<T: Drop>(alloc: Global, value: T) -> Result<Arc<T>, NoMemory>
     ensures { IfOk result (λ owner. arc_value owner ≡ value) }

@@ -106,3 +106,19 @@ pub(crate) fn sum_around<F: Fold>(left: &F::Sum, item: &F::Item, right: &F::Sum)
 {
     around_counted::<F, Brand>(left, item, right, Blank::new(1))
 }
+
+/// The sums of two lists combined, with a counter of its own.
+fn both_counted<F: Fold, C: Ledger>(front: &F::Sum, back: &F::Sum, blank: Blank) -> F::Sum
+    requires { IsFresh C.name C.parts blank }
+    ensures { result ≡ F.combined front.now back.now }
+{
+    let mut steps = Steps::<C>::start(blank);
+    F::combine(front, back, &mut steps)
+}
+
+/// The sums of two lists combined, of which nobody counts the steps.
+pub(crate) fn sum_both<F: Fold>(front: &F::Sum, back: &F::Sum) -> F::Sum
+    ensures { result ≡ F.combined front.now back.now }
+{
+    both_counted::<F, Brand>(front, back, Blank::new(1))
+}

@@ -1,5 +1,5 @@
 //! The constructors that keep the shape of a sequence.
-ghost use Rattle.std.specs.Prelude.{◌≡◌, ◌+◌, ◌*◌, ◌<◌, ◌≤◌, ◌↔◌, ◌∷◌, ◌++◌, IfOk, IsTrue, length};
+ghost use Rattle.std.specs.Prelude.{◌≡◌, ◌+◌, ◌-◌, ◌*◌, ◌<◌, ◌≤◌, ◌↔◌, ◌∷◌, ◌++◌, IfOk, IsTrue, length};
 ghost use Rattle.map_model.specs.Balance.{FillsBlock, FillsNode, IsBlockSize, IsBalanced, weight};
 
 use crate::fold::Fold;
@@ -58,7 +58,7 @@ impl<F: Fold, S: BlockSize> SeqTree<F, S> {
     }
 
     /// The items of two small sequences, and one between them, in one vector.
-    fn gathered(
+    pub(crate) fn gathered(
         alloc: Global,
         left: &Self,
         item: F::Item,
@@ -87,20 +87,31 @@ impl<F: Fold, S: BlockSize> SeqTree<F, S> {
         Self::block(alloc, copy_items::<F>(alloc, items)?)
     }
 
-    /// A sequence of two blocks with an item between them.
-    fn two_blocks(alloc: Global, items: &[F::Item]) -> Result<SeqTree<F, S>, NoMemory>
+    /// A sequence of two blocks with an item between them, of which the first has `count` items.
+    fn two_blocks(alloc: Global, items: &[F::Item], count: usize) -> Result<SeqTree<F, S>, NoMemory>
         requires block_size { IsBlockSize S.SIZE }
-        requires long { 2 * S.SIZE < length items.now }
-        requires small { length items.now ≤ 4 * S.SIZE }
+        requires front { FillsBlock S.SIZE count }
+        requires back { FillsBlock S.SIZE (length items.now - count - 1) }
         ensures { IfOk result (λ tree. tree.items ≡ items.now) }
     {
-        let (front, rest) = items.split_at((items.len() - 1) / 2);
+        let (front, rest) = items.split_at(count);
         let Some((middle, back)) = rest.split_first() else {
             unreachable!()
         };
         let left = Self::copied_block(alloc, front)?;
         let right = Self::copied_block(alloc, back)?;
         Self::node(alloc, left, share_item::<F>(alloc, middle), right)
+    }
+
+    /// The sequence of two blocks of which the first is as full as can be, so that the last one has room.
+    pub(crate) fn full_front(alloc: Global, items: &[F::Item]) -> Result<SeqTree<F, S>, NoMemory>
+        requires block_size { IsBlockSize S.SIZE }
+        requires long { 2 * S.SIZE < length items.now }
+        requires small { length items.now ≤ 4 * S.SIZE }
+        ensures { IfOk result (λ tree. tree.items ≡ items.now) }
+    {
+        let count = (2 * S::SIZE).min(items.len() - 1 - S::SIZE);
+        Self::two_blocks(alloc, items, count)
     }
 
     /// The sequence of few items: none, one block, or two blocks with an item between them. O(B).
@@ -114,7 +125,7 @@ impl<F: Fold, S: BlockSize> SeqTree<F, S> {
         } else if items.len() <= 2 * S::SIZE {
             Self::block(alloc, items)
         } else {
-            Self::two_blocks(alloc, &items)
+            Self::two_blocks(alloc, &items, (items.len() - 1) / 2)
         }
     }
 

@@ -14,6 +14,8 @@ mod finding;
 #[cfg(test)]
 mod growing;
 #[cfg(test)]
+mod in_place;
+#[cfg(test)]
 mod lists;
 #[cfg(test)]
 mod sharing;

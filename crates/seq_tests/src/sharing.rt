@@ -188,3 +188,41 @@ fn a_change_of_a_long_sequence_shares_few_items(rt: HostRuntime) {
     let long = numbers(&rt, rt.alloc(), LONG, &shares);
     assert_sets_few(&rt, rt.alloc(), &long, &shares);
 }
+
+/// How many items are shared where a number is set in a sequence with one owner.
+fn shared_by_set<'a, R: Abort>(
+    rt: &R,
+    alloc: Global,
+    long: &mut Numbers<'a>,
+    shares: &'a AtomicU64,
+) -> u64 {
+    shares.store(0, Ordering::SeqCst);
+    assert!(rt; PLACE < long.size());
+    let item = Counted { number: 0, shares };
+    long.set_mut(alloc, PLACE, item).expect(rt, "memory");
+    shares.load(Ordering::SeqCst)
+}
+
+/// How many are shared where a thousand are pushed behind it one by one, of which each 32nd comes to a full block.
+fn shared_by_pushes<'a, R: Abort>(
+    rt: &R,
+    alloc: Global,
+    long: &mut Numbers<'a>,
+    shares: &'a AtomicU64,
+) -> u64 {
+    shares.store(0, Ordering::SeqCst);
+    for number in 0..SHORT {
+        let item = Counted { number, shares };
+        long.push_mut(alloc, item).expect(rt, "memory");
+    }
+    shares.load(Ordering::SeqCst)
+}
+
+#[test]
+fn changes_in_place_share_next_to_no_items(rt: HostRuntime) {
+    let shares = AtomicU64::new(0);
+    let mut long = numbers(&rt, rt.alloc(), LONG, &shares);
+    assert_eq!(rt; shared_by_set(&rt, rt.alloc(), &mut long, &shares), 0);
+    let count = shared_by_pushes(&rt, rt.alloc(), &mut long, &shares);
+    assert!(rt; count <= 7 * SHORT, "{count} items were shared for {SHORT}");
+}

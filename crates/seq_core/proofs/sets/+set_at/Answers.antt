@@ -1,8 +1,8 @@
 use Rattle.std.proofs.Common.{◌≡◌, ◌<◌, ◌∷◌, length, arith}
 use Rattle.std.proofs.Math.Seq.{set-append_seam}
 use Rattle.std.proofs.lemmas.List.{set-append_left}
-use Rattle.pac_seq.proofs.Runs.{set-around}
-use Rattle.pac_seq.proofs.places.+set_at.Goals as goal
+use Rattle.seq_core.proofs.Parts.{set-around}
+use Rattle.seq_core.proofs.sets.+set_at.Goals as goal
 
 pub returns-then-place-before : goal.returns-then-place-before
 returns-then-place-before g t c =
