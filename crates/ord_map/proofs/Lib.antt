@@ -1,3 +1,4 @@
 mod Between
 mod Nearby
 mod Popped
+mod Turns

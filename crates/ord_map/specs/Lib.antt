@@ -1,3 +1,4 @@
 pub mod Apart
 pub mod Ends
+pub mod InTurn
 pub mod Nearest

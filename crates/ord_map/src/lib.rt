@@ -27,6 +27,7 @@ mod parts;
 mod passes;
 mod ranges;
 mod same;
+mod united;
 mod updates;
 mod wholes;
 

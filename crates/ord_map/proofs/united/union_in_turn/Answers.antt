@@ -2,7 +2,7 @@ use Rattle.std.proofs.Common.{[], take, sym, ap, ◌∙◌, arith}
 use Rattle.std.specs.List.{fold}
 use Rattle.std.proofs.lemmas.List.Sums.{fold_more}
 use Rattle.map_model.specs.SetOperations.{union}
-use Rattle.ord_map.proofs.map.OrdMap.union_all.Goals as goal
+use Rattle.ord_map.proofs.united.union_in_turn.Goals as goal
 
 pub loop-map-preserved : goal.loop-map-preserved
 loop-map-preserved g c =
