@@ -1,4 +1,4 @@
-/* pam: persistent ordered maps, sequences and sets of intervals, for C.
+/* pam: persistent ordered maps from numbers or from byte strings, sequences and sets of intervals, for C.
  *
  * A handle is closed, which is what {0} makes, or open with a map, a sequence or a set. `new`, `build`, `from_bytes` and every
  * call with a result open a closed handle, and `free` closes it. Maps are persistent: a share and a part cost O(1) and O(log n),
@@ -34,6 +34,11 @@ typedef struct pam_map {
     uint64_t state;
 } pam_map;
 
+typedef struct pam_text_map {
+    void *at;
+    uint64_t state;
+} pam_text_map;
+
 typedef struct pam_seq {
     void *at;
     uint64_t state;
@@ -51,7 +56,8 @@ enum {
     PAM_NO_ROOM = 2,   /* the arrays are too short; how long they must be is written */
     PAM_NOT_A_MAP = 3, /* the bytes are no map's */
     PAM_BAD_CALL = 4,  /* a null or closed handle where an open one is wanted, an open one where a result goes, a null array or
-                          result, arrays of one call whose lengths differ, an unknown `how`, left > right, or lo > hi */
+                          result, arrays of one call whose lengths differ, an unknown `how`, left > right, lo > hi, or ends of keys
+                          that fall or lie outside */
     PAM_NO_MEMORY = 7
 };
 
@@ -124,6 +130,64 @@ uint8_t pam_map_del_many(pam_map *map, const uint64_t *keys, size_t keys_len);
 uint8_t pam_map_bytes(pam_map *map, uint8_t *out, size_t room, size_t *needed);
 /* Opens a closed handle with the map that bytes are, in O(n log n). 0, 3, 4, 7 */
 uint8_t pam_map_from_bytes(pam_map *map, const uint8_t *bytes, size_t len);
+
+/* ---- Maps from byte strings to uint64_t, with the sum and the greatest of the values. n is the number of entries. ----
+ *
+ * A key is any bytes, also none, and keys are in the order of their bytes: by the first that differs, and a key comes before those
+ * that it begins (as memcmp). Bounds count comparisons of keys. A call copies the keys that it is given, and may be refused the
+ * memory of the copy. A key that is answered is written into an array of the caller: `key_len` becomes the number of its bytes, and
+ * where the array is shorter the call answers PAM_NO_ROOM and writes nothing else. */
+
+/* As those of maps. */
+uint8_t pam_text_map_new(pam_text_map *map);
+uint8_t pam_text_map_free(pam_text_map *map);
+uint8_t pam_text_map_share(pam_text_map *map, pam_text_map *out);
+uint8_t pam_text_map_len(pam_text_map *map, uint64_t *len);
+
+/* The value at a key, in O(log n). 0, 1, 4, 7 */
+uint8_t pam_text_map_get(pam_text_map *map, const uint8_t *key, size_t len, uint64_t *val);
+/* Whether a key is there, in O(log n): 0 where it is, 1 where it isn't. 0, 1, 4, 7 */
+uint8_t pam_text_map_contains(pam_text_map *map, const uint8_t *key, size_t len);
+/* Sets a key to a value, in O(log n). 0, 4, 7 */
+uint8_t pam_text_map_put(pam_text_map *map, const uint8_t *key, size_t len, uint64_t val);
+/* Removes a key, in O(log n). 0, 1, 4, 7 */
+uint8_t pam_text_map_del(pam_text_map *map, const uint8_t *key, size_t len);
+
+/* The sum, at most UINT64_MAX, and the greatest of all values, in O(1); both 0 where there are none. 0, 4 */
+uint8_t pam_text_map_fold(pam_text_map *map, uint64_t *sum, uint64_t *greatest);
+/* The same of the values at keys from `lo` to `hi`, both included, in O(log n). 0, 4, 7 */
+uint8_t pam_text_map_fold_range(pam_text_map *map, const uint8_t *lo, size_t lo_len, const uint8_t *hi, size_t hi_len, uint64_t *sum, uint64_t *greatest);
+
+/* How many keys are less than a key, in O(log n). 0, 4, 7 */
+uint8_t pam_text_map_rank(pam_text_map *map, const uint8_t *key, size_t len, uint64_t *rank);
+/* The entry at a place, counted from 0, in O(log n). 0, 1, 2, 4, 7 */
+uint8_t pam_text_map_select(pam_text_map *map, uint64_t at, uint8_t *key, size_t room, size_t *key_len, uint64_t *val);
+/* The entry with the least key greater than `than`, and with the greatest key less than it, in O(log n). `than` and `key` are two
+ * arrays. 0, 1, 2, 4, 7 */
+uint8_t pam_text_map_next(pam_text_map *map, const uint8_t *than, size_t than_len, uint8_t *key, size_t room, size_t *key_len, uint64_t *val);
+uint8_t pam_text_map_prev(pam_text_map *map, const uint8_t *than, size_t than_len, uint8_t *key, size_t room, size_t *key_len, uint64_t *val);
+/* The entries with the least and the greatest key, in O(log n). 0, 1, 2, 4, 7 */
+uint8_t pam_text_map_first(pam_text_map *map, uint8_t *key, size_t room, size_t *key_len, uint64_t *val);
+uint8_t pam_text_map_last(pam_text_map *map, uint8_t *key, size_t room, size_t *key_len, uint64_t *val);
+
+/* As those of maps, in the same time. `a` and `b` may be one handle. 0, 4, 7 */
+uint8_t pam_text_map_union(pam_text_map *a, pam_text_map *b, uint8_t how, pam_text_map *out);
+uint8_t pam_text_map_intersection(pam_text_map *a, pam_text_map *b, uint8_t how, pam_text_map *out);
+uint8_t pam_text_map_difference(pam_text_map *a, pam_text_map *b, pam_text_map *out);
+/* The entries with keys less than a key, and those with keys at least it, in O(log n). 0, 4, 7 */
+uint8_t pam_text_map_split(pam_text_map *map, const uint8_t *key, size_t len, pam_text_map *below, pam_text_map *from);
+/* The entries with keys from `lo` to `hi`, both included, in O(log n). 0, 4, 7 */
+uint8_t pam_text_map_range(pam_text_map *map, const uint8_t *lo, size_t lo_len, const uint8_t *hi, size_t hi_len, pam_text_map *out);
+
+/* Writes the first entries with keys at least `from_key`, as many as there are and fit, and how many these are, in O(log n + k) for k
+ * of them: the bytes of their keys in a row, where in that row each key ends, and the values. PAM_NO_ROOM where there is a place in
+ * `ends` and `vals` for the first one, but no room for its key; how many bytes that has is written to `count`. The key behind the
+ * last one written is that with a byte 0 at its end. No two of the arrays overlap. 0, 2, 4, 7 */
+uint8_t pam_text_map_fill(pam_text_map *map, const uint8_t *from_key, size_t from_len, uint8_t *keys, size_t room, size_t *ends, size_t ends_len, uint64_t *vals, size_t vals_len, size_t *count);
+/* Puts m entries in order, in O(m log(m + n)); a later value of a key wins. The bytes of the keys lie in a row: the first key begins
+ * at 0, and each other where the one before it ends. A bad call where an end is less than the one before it, or greater than
+ * `keys_len`. 0, 4, 7 */
+uint8_t pam_text_map_put_many(pam_text_map *map, const uint8_t *keys, size_t keys_len, const size_t *ends, size_t ends_len, const uint64_t *vals, size_t vals_len);
 
 /* ---- Sequences of uint64_t, with the sum and the greatest of the items. n is the number of items. ---- */
 

@@ -110,11 +110,47 @@ static void check_arrays(void) {
     CHECK(pam_map_free(&map) == PAM_OK);
 }
 
+static const uint8_t ROW[] = "foobarfoo";
+static const size_t ENDS[] = {3, 3, 6, 9};
+
+static uint8_t put_text(pam_text_map *map, const char *key, uint64_t val) {
+    return pam_text_map_put(map, (const uint8_t *)key, strlen(key), val);
+}
+
+static void check_texts(void) {
+    pam_text_map map = {0}, out = {0};
+    uint8_t key[4] = "----", keys[8];
+    uint64_t val = 7, sum = 7, greatest = 7, vals[3];
+    size_t len = 7, ends[3], count = 7;
+    CHECK(put_text(&map, "a", 1) == PAM_BAD_CALL && pam_text_map_new(NULL) == PAM_BAD_CALL);
+    CHECK(pam_text_map_new(&map) == PAM_OK && pam_text_map_new(&map) == PAM_BAD_CALL);
+    CHECK(pam_text_map_put_many(&map, ROW, 9, ENDS, 4, VALS, 3) == PAM_BAD_CALL && pam_text_map_put_many(&map, ROW, 8, ENDS, 4, VALS, 4) == PAM_BAD_CALL);
+    CHECK(pam_text_map_put_many(&map, ROW, 9, ENDS, 4, VALS, 4) == PAM_OK && pam_text_map_put_many(&map, NULL, 0, NULL, 0, NULL, 0) == PAM_OK);
+    CHECK(pam_text_map_len(&map, &val) == PAM_OK && val == 3);
+    CHECK(pam_text_map_get(&map, NULL, 0, &val) == PAM_OK && val == 10);
+    CHECK(pam_text_map_get(&map, ROW, 2, &val) == PAM_NOT_THERE && val == 10 && pam_text_map_get(&map, NULL, 1, &val) == PAM_BAD_CALL);
+    CHECK(pam_text_map_contains(&map, ROW, 3) == PAM_OK && pam_text_map_contains(&map, ROW, 4) == PAM_NOT_THERE);
+    CHECK(pam_text_map_fold_range(&map, NULL, 0, ROW + 3, 3, &sum, &greatest) == PAM_OK && sum == 40 && greatest == 30);
+    CHECK(pam_text_map_rank(&map, ROW, 1, &val) == PAM_OK && val == 2);
+    CHECK(pam_text_map_next(&map, ROW + 3, 3, key, 2, &len, &val) == PAM_NO_ROOM && len == 3 && val == 2 && key[0] == '-');
+    CHECK(pam_text_map_next(&map, ROW + 3, 3, key, 4, &len, &val) == PAM_OK && val == 50 && memcmp(key, "foo-", 4) == 0);
+    CHECK(pam_text_map_prev(&map, ROW + 3, 3, NULL, 0, &len, &val) == PAM_OK && len == 0 && val == 10);
+    CHECK(pam_text_map_prev(&map, NULL, 0, key, 4, &len, &val) == PAM_NOT_THERE);
+    CHECK(pam_text_map_last(&map, key, 4, &len, &val) == PAM_OK && len == 3 && val == 50);
+    CHECK(pam_text_map_fill(&map, NULL, 0, keys, 5, ends, 3, vals, 3, &count) == PAM_OK && count == 2 && ends[0] == 0 && ends[1] == 3 && vals[1] == 30);
+    CHECK(pam_text_map_fill(&map, ROW, 3, keys, 2, ends, 3, vals, 3, &count) == PAM_NO_ROOM && count == 3);
+    CHECK(pam_text_map_fill(&map, ROW, 3, keys, 8, ends, 3, vals, 2, &count) == PAM_BAD_CALL && count == 3);
+    CHECK(pam_text_map_union(&map, &map, PAM_SUM, &out) == PAM_OK && pam_text_map_fold(&out, &sum, &greatest) == PAM_OK && sum == 180);
+    CHECK(pam_text_map_del(&out, ROW, 3) == PAM_OK && pam_text_map_del(&out, ROW, 3) == PAM_NOT_THERE);
+    CHECK(pam_text_map_free(&out) == PAM_OK && pam_text_map_free(&map) == PAM_OK && pam_text_map_free(&map) == PAM_OK);
+}
+
 int main(void) {
     check_points();
     check_questions();
     check_two_maps();
     check_arrays();
+    check_texts();
     puts(wrong ? "wrong" : "all maps' calls as they should be");
     return wrong;
 }

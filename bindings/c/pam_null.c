@@ -8,6 +8,7 @@
 
 static uint64_t no_numbers[1];
 static uint8_t no_bytes[1];
+static size_t no_sizes[1];
 
 #define BAD(pointer) ((pointer) == NULL)
 #define BAD_ARRAY(items, len) ((items) == NULL && (len) != 0)
@@ -39,6 +40,29 @@ uint8_t pam_x_map_get_many(pam_map *map, const uint64_t *keys, size_t keys_len, 
 uint8_t pam_x_map_del_many(pam_map *map, const uint64_t *keys, size_t keys_len);
 uint8_t pam_x_map_bytes(pam_map *map, uint8_t *out, size_t room, size_t *needed);
 uint8_t pam_x_map_from_bytes(pam_map *map, const uint8_t *bytes, size_t len);
+uint8_t pam_x_text_map_new(pam_text_map *map);
+uint8_t pam_x_text_map_free(pam_text_map *map);
+uint8_t pam_x_text_map_share(pam_text_map *map, pam_text_map *out);
+uint8_t pam_x_text_map_len(pam_text_map *map, uint64_t *len);
+uint8_t pam_x_text_map_get(pam_text_map *map, const uint8_t *key, size_t len, uint64_t *val);
+uint8_t pam_x_text_map_contains(pam_text_map *map, const uint8_t *key, size_t len);
+uint8_t pam_x_text_map_put(pam_text_map *map, const uint8_t *key, size_t len, uint64_t val);
+uint8_t pam_x_text_map_del(pam_text_map *map, const uint8_t *key, size_t len);
+uint8_t pam_x_text_map_fold(pam_text_map *map, uint64_t *sum, uint64_t *greatest);
+uint8_t pam_x_text_map_fold_range(pam_text_map *map, const uint8_t *lo, size_t lo_len, const uint8_t *hi, size_t hi_len, uint64_t *sum, uint64_t *greatest);
+uint8_t pam_x_text_map_rank(pam_text_map *map, const uint8_t *key, size_t len, uint64_t *rank);
+uint8_t pam_x_text_map_select(pam_text_map *map, uint64_t at, uint8_t *key, size_t room, size_t *key_len, uint64_t *val);
+uint8_t pam_x_text_map_next(pam_text_map *map, const uint8_t *than, size_t than_len, uint8_t *key, size_t room, size_t *key_len, uint64_t *val);
+uint8_t pam_x_text_map_prev(pam_text_map *map, const uint8_t *than, size_t than_len, uint8_t *key, size_t room, size_t *key_len, uint64_t *val);
+uint8_t pam_x_text_map_first(pam_text_map *map, uint8_t *key, size_t room, size_t *key_len, uint64_t *val);
+uint8_t pam_x_text_map_last(pam_text_map *map, uint8_t *key, size_t room, size_t *key_len, uint64_t *val);
+uint8_t pam_x_text_map_union(pam_text_map *a, pam_text_map *b, uint8_t how, pam_text_map *out);
+uint8_t pam_x_text_map_intersection(pam_text_map *a, pam_text_map *b, uint8_t how, pam_text_map *out);
+uint8_t pam_x_text_map_difference(pam_text_map *a, pam_text_map *b, pam_text_map *out);
+uint8_t pam_x_text_map_split(pam_text_map *map, const uint8_t *key, size_t len, pam_text_map *below, pam_text_map *from);
+uint8_t pam_x_text_map_range(pam_text_map *map, const uint8_t *lo, size_t lo_len, const uint8_t *hi, size_t hi_len, pam_text_map *out);
+uint8_t pam_x_text_map_fill(pam_text_map *map, const uint8_t *from_key, size_t from_len, uint8_t *keys, size_t room, size_t *ends, size_t ends_len, uint64_t *vals, size_t vals_len, size_t *count);
+uint8_t pam_x_text_map_put_many(pam_text_map *map, const uint8_t *keys, size_t keys_len, const size_t *ends, size_t ends_len, const uint64_t *vals, size_t vals_len);
 uint8_t pam_x_seq_new(pam_seq *seq);
 uint8_t pam_x_seq_free(pam_seq *seq);
 uint8_t pam_x_seq_share(pam_seq *seq, pam_seq *out);
@@ -281,6 +305,194 @@ uint8_t pam_map_from_bytes(pam_map *map, const uint8_t *bytes, size_t len) {
         return PAM_BAD_CALL;
     }
     return pam_x_map_from_bytes(map, bytes ? bytes : no_bytes, len);
+}
+
+uint8_t pam_text_map_new(pam_text_map *map) {
+    if (BAD(map)) {
+        return PAM_BAD_CALL;
+    }
+    return pam_x_text_map_new(map);
+}
+
+uint8_t pam_text_map_free(pam_text_map *map) {
+    if (BAD(map)) {
+        return PAM_BAD_CALL;
+    }
+    return pam_x_text_map_free(map);
+}
+
+uint8_t pam_text_map_share(pam_text_map *map, pam_text_map *out) {
+    if (BAD(map) || BAD(out) || map == out) {
+        return PAM_BAD_CALL;
+    }
+    return pam_x_text_map_share(map, out);
+}
+
+uint8_t pam_text_map_len(pam_text_map *map, uint64_t *len) {
+    if (BAD(map) || BAD(len)) {
+        return PAM_BAD_CALL;
+    }
+    return pam_x_text_map_len(map, len);
+}
+
+uint8_t pam_text_map_get(pam_text_map *map, const uint8_t *key, size_t len, uint64_t *val) {
+    if (BAD(map) || BAD_ARRAY(key, len) || BAD(val)) {
+        return PAM_BAD_CALL;
+    }
+    return pam_x_text_map_get(map, key ? key : no_bytes, len, val);
+}
+
+uint8_t pam_text_map_contains(pam_text_map *map, const uint8_t *key, size_t len) {
+    if (BAD(map) || BAD_ARRAY(key, len)) {
+        return PAM_BAD_CALL;
+    }
+    return pam_x_text_map_contains(map, key ? key : no_bytes, len);
+}
+
+uint8_t pam_text_map_put(pam_text_map *map, const uint8_t *key, size_t len, uint64_t val) {
+    if (BAD(map) || BAD_ARRAY(key, len)) {
+        return PAM_BAD_CALL;
+    }
+    return pam_x_text_map_put(map, key ? key : no_bytes, len, val);
+}
+
+uint8_t pam_text_map_del(pam_text_map *map, const uint8_t *key, size_t len) {
+    if (BAD(map) || BAD_ARRAY(key, len)) {
+        return PAM_BAD_CALL;
+    }
+    return pam_x_text_map_del(map, key ? key : no_bytes, len);
+}
+
+uint8_t pam_text_map_fold(pam_text_map *map, uint64_t *sum, uint64_t *greatest) {
+    if (BAD(map) || BAD(sum) || BAD(greatest)) {
+        return PAM_BAD_CALL;
+    }
+    return pam_x_text_map_fold(map, sum, greatest);
+}
+
+uint8_t pam_text_map_fold_range(pam_text_map *map, const uint8_t *lo, size_t lo_len, const uint8_t *hi, size_t hi_len, uint64_t *sum, uint64_t *greatest) {
+    if (BAD(map) || BAD_ARRAY(lo, lo_len) || BAD_ARRAY(hi, hi_len) || BAD(sum) || BAD(greatest)) {
+        return PAM_BAD_CALL;
+    }
+    return pam_x_text_map_fold_range(map, lo ? lo : no_bytes, lo_len, hi ? hi : no_bytes, hi_len, sum, greatest);
+}
+
+uint8_t pam_text_map_rank(pam_text_map *map, const uint8_t *key, size_t len, uint64_t *rank) {
+    if (BAD(map) || BAD_ARRAY(key, len) || BAD(rank)) {
+        return PAM_BAD_CALL;
+    }
+    return pam_x_text_map_rank(map, key ? key : no_bytes, len, rank);
+}
+
+uint8_t pam_text_map_select(pam_text_map *map, uint64_t at, uint8_t *key, size_t room, size_t *key_len, uint64_t *val) {
+    if (BAD(map) || BAD_ARRAY(key, room) || BAD(key_len) || BAD(val)) {
+        return PAM_BAD_CALL;
+    }
+    return pam_x_text_map_select(map, at, key ? key : no_bytes, room, key_len, val);
+}
+
+uint8_t pam_text_map_next(pam_text_map *map, const uint8_t *than, size_t than_len, uint8_t *key, size_t room, size_t *key_len, uint64_t *val) {
+    if (BAD(map) || BAD_ARRAY(than, than_len) || BAD_ARRAY(key, room) || BAD(key_len) || BAD(val)) {
+        return PAM_BAD_CALL;
+    }
+    return pam_x_text_map_next(map, than ? than : no_bytes, than_len, key ? key : no_bytes, room, key_len, val);
+}
+
+uint8_t pam_text_map_prev(pam_text_map *map, const uint8_t *than, size_t than_len, uint8_t *key, size_t room, size_t *key_len, uint64_t *val) {
+    if (BAD(map) || BAD_ARRAY(than, than_len) || BAD_ARRAY(key, room) || BAD(key_len) || BAD(val)) {
+        return PAM_BAD_CALL;
+    }
+    return pam_x_text_map_prev(map, than ? than : no_bytes, than_len, key ? key : no_bytes, room, key_len, val);
+}
+
+uint8_t pam_text_map_first(pam_text_map *map, uint8_t *key, size_t room, size_t *key_len, uint64_t *val) {
+    if (BAD(map) || BAD_ARRAY(key, room) || BAD(key_len) || BAD(val)) {
+        return PAM_BAD_CALL;
+    }
+    return pam_x_text_map_first(map, key ? key : no_bytes, room, key_len, val);
+}
+
+uint8_t pam_text_map_last(pam_text_map *map, uint8_t *key, size_t room, size_t *key_len, uint64_t *val) {
+    if (BAD(map) || BAD_ARRAY(key, room) || BAD(key_len) || BAD(val)) {
+        return PAM_BAD_CALL;
+    }
+    return pam_x_text_map_last(map, key ? key : no_bytes, room, key_len, val);
+}
+
+uint8_t pam_text_map_union(pam_text_map *a, pam_text_map *b, uint8_t how, pam_text_map *out) {
+    if (BAD(a) || BAD(b) || BAD(out) || a == out || b == out) {
+        return PAM_BAD_CALL;
+    }
+    if (a == b) {
+        pam_text_map other = {0};
+        uint8_t status = pam_x_text_map_share(a, &other);
+        if (status == PAM_OK) {
+            status = pam_x_text_map_union(a, &other, how, out);
+            pam_x_text_map_free(&other);
+        }
+        return status;
+    }
+    return pam_x_text_map_union(a, b, how, out);
+}
+
+uint8_t pam_text_map_intersection(pam_text_map *a, pam_text_map *b, uint8_t how, pam_text_map *out) {
+    if (BAD(a) || BAD(b) || BAD(out) || a == out || b == out) {
+        return PAM_BAD_CALL;
+    }
+    if (a == b) {
+        pam_text_map other = {0};
+        uint8_t status = pam_x_text_map_share(a, &other);
+        if (status == PAM_OK) {
+            status = pam_x_text_map_intersection(a, &other, how, out);
+            pam_x_text_map_free(&other);
+        }
+        return status;
+    }
+    return pam_x_text_map_intersection(a, b, how, out);
+}
+
+uint8_t pam_text_map_difference(pam_text_map *a, pam_text_map *b, pam_text_map *out) {
+    if (BAD(a) || BAD(b) || BAD(out) || a == out || b == out) {
+        return PAM_BAD_CALL;
+    }
+    if (a == b) {
+        pam_text_map other = {0};
+        uint8_t status = pam_x_text_map_share(a, &other);
+        if (status == PAM_OK) {
+            status = pam_x_text_map_difference(a, &other, out);
+            pam_x_text_map_free(&other);
+        }
+        return status;
+    }
+    return pam_x_text_map_difference(a, b, out);
+}
+
+uint8_t pam_text_map_split(pam_text_map *map, const uint8_t *key, size_t len, pam_text_map *below, pam_text_map *from) {
+    if (BAD(map) || BAD_ARRAY(key, len) || BAD(below) || BAD(from) || map == below || from == below || map == from) {
+        return PAM_BAD_CALL;
+    }
+    return pam_x_text_map_split(map, key ? key : no_bytes, len, below, from);
+}
+
+uint8_t pam_text_map_range(pam_text_map *map, const uint8_t *lo, size_t lo_len, const uint8_t *hi, size_t hi_len, pam_text_map *out) {
+    if (BAD(map) || BAD_ARRAY(lo, lo_len) || BAD_ARRAY(hi, hi_len) || BAD(out) || map == out) {
+        return PAM_BAD_CALL;
+    }
+    return pam_x_text_map_range(map, lo ? lo : no_bytes, lo_len, hi ? hi : no_bytes, hi_len, out);
+}
+
+uint8_t pam_text_map_fill(pam_text_map *map, const uint8_t *from_key, size_t from_len, uint8_t *keys, size_t room, size_t *ends, size_t ends_len, uint64_t *vals, size_t vals_len, size_t *count) {
+    if (BAD(map) || BAD_ARRAY(from_key, from_len) || BAD_ARRAY(keys, room) || BAD_ARRAY(ends, ends_len) || BAD_ARRAY(vals, vals_len) || BAD(count)) {
+        return PAM_BAD_CALL;
+    }
+    return pam_x_text_map_fill(map, from_key ? from_key : no_bytes, from_len, keys ? keys : no_bytes, room, ends ? ends : no_sizes, ends_len, vals ? vals : no_numbers, vals_len, count);
+}
+
+uint8_t pam_text_map_put_many(pam_text_map *map, const uint8_t *keys, size_t keys_len, const size_t *ends, size_t ends_len, const uint64_t *vals, size_t vals_len) {
+    if (BAD(map) || BAD_ARRAY(keys, keys_len) || BAD_ARRAY(ends, ends_len) || BAD_ARRAY(vals, vals_len)) {
+        return PAM_BAD_CALL;
+    }
+    return pam_x_text_map_put_many(map, keys ? keys : no_bytes, keys_len, ends ? ends : no_sizes, ends_len, vals ? vals : no_numbers, vals_len);
 }
 
 uint8_t pam_seq_new(pam_seq *seq) {

@@ -2,6 +2,7 @@
 #include <algorithm>
 #include <map>
 #include <set>
+#include <string>
 #include <utility>
 #include <vector>
 
@@ -301,6 +302,220 @@ struct Maps {
     }
 };
 
+// Maps from byte strings
+
+struct Texts {
+    using Twin = std::map<std::string, uint64_t>;
+    Run &run;
+    pam_text_map maps[2] = {};
+    Twin twins[2];
+
+    explicit Texts(Run &r) : run(r)
+    {
+        for (auto &m : maps)
+            EXPECT(pam_text_map_new(&m) == PAM_OK);
+    }
+
+    ~Texts()
+    {
+        for (auto &m : maps) {
+            EXPECT(pam_text_map_free(&m) == PAM_OK);
+            EXPECT(pam_text_map_free(&m) == PAM_OK);
+        }
+    }
+
+    static const uint8_t *bytes(const std::string &key) { return reinterpret_cast<const uint8_t *>(key.data()); }
+
+    // Few letters, so that keys meet; now and then the key of no bytes, and a long one.
+    std::string word()
+    {
+        std::string key(run.below(run.below(24) == 0 ? 200 : 6), 'a');
+        for (auto &letter : key)
+            letter = "ab\0\xff"[run.below(4)];
+        return key;
+    }
+
+    // Goes through the map in parts that need not have room for more than one entry.
+    void same(pam_text_map &m, const Twin &twin)
+    {
+        uint64_t len;
+        EXPECT(pam_text_map_len(&m, &len) == PAM_OK && len == twin.size());
+        size_t count = 0, room = run.below(100), places = 1 + run.below(40);
+        Numbers vals(places);
+        std::vector<size_t> ends(places);
+        std::string from;
+        for (auto at = twin.begin();;) {
+            std::vector<uint8_t> keys(room);
+            uint8_t status = pam_text_map_fill(&m, bytes(from), from.size(), keys.data(), room, ends.data(), places, vals.data(), places, &count);
+            if (status == PAM_NO_ROOM) {
+                EXPECT(at != twin.end() && at->first.size() == count && count > room);
+                room = count;
+                continue;
+            }
+            EXPECT(status == PAM_OK);
+            if (count == 0) {
+                EXPECT(at == twin.end());
+                return;
+            }
+            for (size_t i = 0, start = 0; i < count; start = ends[i++], ++at) {
+                from.assign(keys.begin() + start, keys.begin() + ends[i]);
+                EXPECT(at != twin.end() && at->first == from && at->second == vals[i]);
+            }
+            from.push_back('\0');
+        }
+    }
+
+    void replace(int at, pam_text_map &out, Twin twin)
+    {
+        EXPECT(pam_text_map_free(&maps[at]) == PAM_OK);
+        maps[at] = out;
+        twins[at] = std::move(twin);
+        same(maps[at], twins[at]);
+    }
+
+    // What a call answers that writes an entry into an array, at the first room that it takes.
+    template <class Call> void entry(Call call, const Twin &twin, Twin::const_iterator wanted)
+    {
+        std::vector<uint8_t> key(run.below(8));
+        size_t len = 999;
+        uint64_t val = 999;
+        uint8_t status = call(key.data(), key.size(), &len, &val);
+        if (wanted == twin.end()) {
+            EXPECT(status == PAM_NOT_THERE && len == 999 && val == 999);
+            return;
+        }
+        EXPECT(len == wanted->first.size());
+        if (status == PAM_NO_ROOM) {
+            EXPECT(len > key.size() && val == 999);
+            key.resize(len);
+            status = call(key.data(), key.size(), &len, &val);
+        }
+        EXPECT(status == PAM_OK && val == wanted->second && std::string(key.begin(), key.begin() + len) == wanted->first);
+    }
+
+    void asked(pam_text_map &m, const Twin &twin)
+    {
+        std::string key = word();
+        uint64_t found, at = run.below(twin.size() + 2);
+        auto from = twin.lower_bound(key);
+        EXPECT(pam_text_map_rank(&m, bytes(key), key.size(), &found) == PAM_OK && found == uint64_t(std::distance(twin.begin(), from)));
+        entry([&](auto... out) { return pam_text_map_next(&m, bytes(key), key.size(), out...); }, twin, twin.upper_bound(key));
+        entry([&](auto... out) { return pam_text_map_prev(&m, bytes(key), key.size(), out...); }, twin, from == twin.begin() ? twin.end() : std::prev(from));
+        entry([&](auto... out) { return pam_text_map_select(&m, at, out...); }, twin, at < twin.size() ? std::next(twin.begin(), at) : twin.end());
+        entry([&](auto... out) { return pam_text_map_first(&m, out...); }, twin, twin.begin());
+        entry([&](auto... out) { return pam_text_map_last(&m, out...); }, twin, twin.empty() ? twin.end() : std::prev(twin.end()));
+    }
+
+    void parts(pam_text_map &m, const Twin &twin)
+    {
+        std::string lo = word(), hi = word();
+        pam_text_map below = {}, above = {}, inside = {};
+        Twin part = lo > hi ? Twin() : Twin(twin.lower_bound(lo), twin.upper_bound(hi));
+        Folded all, wanted, found;
+        for (auto &e : twin)
+            all.add(e.second);
+        for (auto &e : part)
+            wanted.add(e.second);
+        EXPECT(pam_text_map_fold(&m, &found.sum, &found.greatest) == PAM_OK && found == all);
+        EXPECT(pam_text_map_fold_range(&m, bytes(lo), lo.size(), bytes(hi), hi.size(), &found.sum, &found.greatest) == PAM_OK && found == wanted);
+        EXPECT(pam_text_map_range(&m, bytes(lo), lo.size(), bytes(hi), hi.size(), &inside) == PAM_OK);
+        same(inside, part);
+        EXPECT(pam_text_map_split(&m, bytes(lo), lo.size(), &below, &above) == PAM_OK);
+        same(below, Twin(twin.begin(), twin.lower_bound(lo)));
+        same(above, Twin(twin.lower_bound(lo), twin.end()));
+        EXPECT(pam_text_map_free(&below) == PAM_OK && pam_text_map_free(&above) == PAM_OK && pam_text_map_free(&inside) == PAM_OK);
+    }
+
+    void many(pam_text_map &m, Twin &twin)
+    {
+        std::string row;
+        std::vector<size_t> ends;
+        Numbers vals;
+        for (uint64_t n = run.below(150); n > 0; n--) {
+            std::string key = word();
+            row += key;
+            ends.push_back(row.size());
+            vals.push_back(run.number() >> run.below(64));
+            twin[key] = vals.back();
+        }
+        EXPECT(pam_text_map_put_many(&m, bytes(row), row.size(), ends.data(), ends.size(), vals.data(), vals.size()) == PAM_OK);
+        if (!row.empty()) {
+            EXPECT(pam_text_map_put_many(&m, bytes(row), row.size() - 1, ends.data(), ends.size(), vals.data(), vals.size()) == PAM_BAD_CALL);
+            ends.push_back(0);
+            vals.push_back(0);
+            EXPECT(pam_text_map_put_many(&m, bytes(row), row.size(), ends.data(), ends.size(), vals.data(), vals.size()) == PAM_BAD_CALL);
+        }
+        same(m, twin);
+    }
+
+    void joined(int a, int b, int at)
+    {
+        int how = run.below(4);
+        pam_text_map out = {};
+        Twin twin;
+        const Twin &x = twins[a], &y = twins[b];
+        auto both = [&](const Twin::value_type &e) { return y.count(e.first) ? Maps::resolved(how, e.second, y.at(e.first)) : e.second; };
+        switch (run.below(3)) {
+        case 0:
+            twin = y;
+            for (auto &e : x)
+                twin[e.first] = both(e);
+            EXPECT(pam_text_map_union(&maps[a], &maps[b], how, &out) == PAM_OK);
+            break;
+        case 1:
+            for (auto &e : x)
+                if (y.count(e.first))
+                    twin[e.first] = both(e);
+            EXPECT(pam_text_map_intersection(&maps[a], &maps[b], how, &out) == PAM_OK);
+            break;
+        default:
+            for (auto &e : x)
+                if (!y.count(e.first))
+                    twin.insert(e);
+            EXPECT(pam_text_map_difference(&maps[a], &maps[b], &out) == PAM_OK);
+        }
+        replace(at, out, std::move(twin));
+    }
+
+    void single(pam_text_map &m, Twin &twin)
+    {
+        std::string key = word();
+        uint64_t val = run.number() >> run.below(64), found = 0;
+        auto at = twin.find(key);
+        switch (run.below(3)) {
+        case 0:
+            EXPECT(pam_text_map_put(&m, bytes(key), key.size(), val) == PAM_OK);
+            twin[key] = val;
+            break;
+        case 1: EXPECT(pam_text_map_del(&m, bytes(key), key.size()) == (twin.erase(key) ? PAM_OK : PAM_NOT_THERE)); break;
+        default:
+            EXPECT(pam_text_map_contains(&m, bytes(key), key.size()) == (at == twin.end() ? PAM_NOT_THERE : PAM_OK));
+            EXPECT(pam_text_map_get(&m, bytes(key), key.size(), &found) == (at == twin.end() ? PAM_NOT_THERE : PAM_OK));
+            EXPECT(found == (at == twin.end() ? 0 : at->second));
+        }
+    }
+
+    void step()
+    {
+        int a = run.below(2), b = run.below(2);
+        switch (run.below(40)) {
+        case 0: joined(a, b, run.below(2)); break;
+        case 1: many(maps[a], twins[a]); break;
+        case 2: parts(maps[a], twins[a]); break;
+        case 3: {
+            pam_text_map out = {};
+            EXPECT(pam_text_map_share(&maps[a], &out) == PAM_OK && pam_text_map_share(&maps[a], &out) == PAM_BAD_CALL);
+            replace(b, out, twins[a]);
+            break;
+        }
+        case 4:
+        case 5:
+        case 6: asked(maps[a], twins[a]); break;
+        default: single(maps[a], twins[a]);
+        }
+    }
+};
+
 // Sequences
 
 struct Seqs {
@@ -561,10 +776,12 @@ int main(int count, char **words)
     Run run(count, words);
     while (run.goes_on()) {
         Maps maps(run);
+        Texts texts(run);
         Seqs seqs(run);
         Sets sets(run);
         for (int i = 0; i < 3000 && run.goes_on(); i++, run.steps++) {
             maps.step();
+            texts.step();
             seqs.step();
             sets.step();
         }

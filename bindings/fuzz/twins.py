@@ -118,6 +118,73 @@ class Maps:
             self.single(m, twin)
 
 
+class Texts:
+    """Keys of few letters, so that they meet; now and then the key of no bytes, and long ones."""
+
+    def __init__(self, r):
+        self.r, self.pairs = r, [(pam.TextMap(), SortedDict()) for _ in range(2)]
+
+    def word(self):
+        r = self.r
+        return bytes(r.choice(b"ab\0\xff") for _ in range(r.choice([0, 1, 2, 3, 4, 5, r.randrange(200)])))
+
+    def bound(self):
+        return self.r.choice([self.word(), self.word(), None])
+
+    def single(self, m, twin):
+        r, k, v = self.r, self.word(), key(self.r)
+        name, words = r.choice([("__setitem__", (k, v)), ("__setitem__", (k, v)), ("__delitem__", (k,)), ("__getitem__", (k,)), ("get", (k, 5)),
+                                ("pop", (k, None)), ("setdefault", (k, v)), ("__contains__", (k,)), ("peekitem", (r.randrange(-5, 5),)),
+                                ("popitem", (r.randrange(-5, 5),)), ("bisect_left", (k,)), ("bisect_right", (k,))])
+        mine, theirs = answer(lambda: getattr(m, name)(*words)), answer(lambda: getattr(twin, name)(*words))
+        # An empty map and a place: SortedDict says KeyError, and IndexError of others.
+        assert mine == theirs or {mine, theirs} == {KeyError, IndexError}, (name, words, mine, theirs)
+
+    def ranges(self, m, twin):
+        lo, hi = self.bound(), self.bound()
+        keys = [k for k in twin if (lo is None or lo <= k) and (hi is None or k < hi)]
+        vals = [twin[k] for k in keys]
+        part = m[lo:hi]
+        assert list(part.items()) == list(zip(keys, vals))
+        assert part.sum() == m.sum(lo, hi) == min(sum(vals), TOP)
+        assert m.max(lo, hi, default=None) == part.max(default=None) == max(vals, default=None)
+        assert list(m.irange(lo, hi)) == list(twin.irange(lo, hi))
+        if self.r.random() < 0.3:
+            del m[lo:hi]
+            for k in keys:
+                del twin[k]
+
+    def joined(self, i):
+        r, (a, x), (b, y) = self.r, *self.r.choices(self.pairs, k=2)
+        how = r.choice(list(HOW))
+        made = r.choice([
+            lambda: (a.union(b, how), {k: HOW[how](x[k], y[k]) if k in x and k in y else x.get(k, y.get(k)) for k in [*x, *y]}),
+            lambda: (a.intersection(b, how), {k: HOW[how](x[k], y[k]) for k in x if k in y}),
+            lambda: (a - b, {k: x[k] for k in x if k not in y}),
+            lambda: (copy.copy(a), x),
+            lambda: (pickle.loads(pickle.dumps(a)), x),
+        ])()  # fmt: skip
+        self.pairs[i] = (made[0], SortedDict(made[1]))
+
+    def step(self):
+        r, i = self.r, self.r.randrange(len(self.pairs))
+        m, twin = self.pairs[i]
+        what = r.randrange(30)
+        if what == 0:
+            self.joined(i)
+        elif what == 1:
+            pairs = [(self.word(), key(r)) for _ in range(r.randrange(150))]
+            m.put_many(r.choice([dict, list, iter])(pairs))
+            twin.update(pairs)
+        elif what == 2:
+            self.ranges(m, twin)
+        elif what == 3:
+            assert m == twin and len(m) == len(twin) and list(m.items()) == list(twin.items())
+            assert list(reversed(m)) == list(reversed(twin)) and list(m.values()) == list(twin.values())
+        else:
+            self.single(m, twin)
+
+
 class Seqs:
     def __init__(self, r):
         self.r, self.seq, self.twin = r, pam.Seq(), []
@@ -185,7 +252,7 @@ def main():
     r, end, steps = random.Random(seed), time.monotonic() + seconds, 0
     try:
         while time.monotonic() < end:
-            kinds = [Maps(r), Seqs(r), Sets(r)]
+            kinds = [Maps(r), Texts(r), Seqs(r), Sets(r)]
             for _ in range(500):
                 for kind in kinds:
                     kind.step()

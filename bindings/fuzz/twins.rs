@@ -1,9 +1,9 @@
 //! Random calls of the crate pam, each also done to a `BTreeMap`, a `Vec` or a `BTreeSet`, and compared. `PAM_FUZZ_SEED` and
 //! `PAM_FUZZ_SECONDS` say with which numbers, and for how long each test goes on; 1 and 1 if they don't.
-use pam::{Fold, FromBytesError, Intervals, Map, NoMemory, Resolve, Seq};
+use pam::{Fold, FromBytesError, Intervals, Map, NoMemory, Resolve, Seq, TextMap};
 use std::collections::{BTreeMap, BTreeSet};
 use std::env;
-use std::ops::RangeInclusive;
+use std::ops::{Bound, RangeInclusive};
 use std::time::{Duration, Instant};
 
 type Twin = BTreeMap<u64, u64>;
@@ -36,6 +36,12 @@ impl Random {
             2 => self.number(),
             _ => self.below(600) << (self.below(2) * 20),
         }
+    }
+
+    /// Few letters, so that keys meet; now and then the key of no bytes, and a long one.
+    fn word(&mut self) -> Vec<u8> {
+        let most = if self.below(24) == 0 { 200 } else { 6 };
+        (0..self.below(most)).map(|_| b"ab\0\xff"[self.below(4) as usize]).collect()
     }
 
     fn keys(&mut self, most: u64) -> Vec<u64> {
@@ -182,6 +188,107 @@ fn maps_are_as_btree_maps() -> Result<(), NoMemory> {
             3 => parts(&mut pairs[a].0, &mut pairs[a].1, r)?,
             4 => assert_eq!(pairs[a].0 == pairs[b].0, pairs[a].1 == pairs[b].1),
             _ => single(&mut pairs[a].0, &mut pairs[a].1, r)?,
+        }
+        Ok(())
+    })
+}
+
+type TextTwin = BTreeMap<Vec<u8>, u64>;
+
+fn pair((key, val): (&Vec<u8>, &u64)) -> (Vec<u8>, u64) {
+    (key.clone(), *val)
+}
+
+fn same_texts(map: &TextMap, twin: &TextTwin) {
+    assert_eq!(map.len(), twin.len());
+    assert!(map.iter().eq(twin.iter().map(pair)));
+    assert!(map.iter().rev().eq(twin.iter().rev().map(pair)));
+}
+
+fn single_text(map: &mut TextMap, twin: &mut TextTwin, r: &mut Random) -> Result<(), NoMemory> {
+    let (key, val) = (r.word(), r.number() >> r.below(64));
+    match r.below(8) {
+        0..=2 => {
+            map.insert(&key, val)?;
+            twin.insert(key, val);
+        }
+        3 => assert_eq!(map.remove(&key)?, twin.remove(&key).is_some()),
+        4 => assert_eq!((map.get(&key), map.contains_key(&key)), (twin.get(&key).copied(), twin.contains_key(&key))),
+        5 => {
+            assert_eq!(map.first_key_value(), twin.first_key_value().map(pair));
+            assert_eq!(map.last_key_value(), twin.last_key_value().map(pair));
+        }
+        6 => {
+            assert_eq!(map.rank(&key), twin.range(..key.clone()).count() as u64);
+            assert_eq!(map.prev(&key), twin.range(..key.clone()).next_back().map(pair));
+            assert_eq!(map.next(&key), twin.range((Bound::Excluded(key), Bound::Unbounded)).next().map(pair));
+        }
+        _ => {
+            let place = r.below(twin.len() as u64 + 2);
+            assert_eq!(map.select(place), twin.iter().nth(place as usize).map(pair));
+        }
+    }
+    Ok(())
+}
+
+fn text_parts(map: &mut TextMap, twin: &mut TextTwin, r: &mut Random) -> Result<(), NoMemory> {
+    let (a, b) = (r.word(), r.word());
+    let (lo, hi) = if a < b { (a, b) } else { (b, a) };
+    let inside = || twin.range(lo.clone()..=hi.clone()).map(pair);
+    assert!(map.range(&lo[..]..=&hi[..]).eq(inside()));
+    assert!(map.range(&lo[..]..&hi[..]).rev().eq(twin.range(lo.clone()..hi.clone()).rev().map(pair)));
+    assert_eq!(map.fold_range(&lo[..]..=&hi[..]), fold(inside().map(|(_, val)| val)));
+    assert_eq!(map.fold(), fold(twin.values().copied()));
+    // From both ends in turn, until they meet.
+    let (mut mine, mut theirs) = (map.range(&lo[..]..), twin.range(lo.clone()..));
+    for _ in 0..=twin.len() {
+        let (next, wanted) = if r.below(2) == 0 { (mine.next(), theirs.next()) } else { (mine.next_back(), theirs.next_back()) };
+        assert_eq!(next, wanted.map(pair));
+    }
+    if r.below(4) == 0 {
+        same_texts(&map.split_off(&lo)?, &twin.split_off(&lo));
+        same_texts(map, twin);
+    }
+    Ok(())
+}
+
+fn joined_texts(a: &(TextMap, TextTwin), b: &(TextMap, TextTwin), r: &mut Random) -> Result<(TextMap, TextTwin), NoMemory> {
+    let how = [Resolve::First, Resolve::Second, Resolve::Sum, Resolve::Max][r.below(4) as usize];
+    let at_both = |(key, val): (&Vec<u8>, &u64)| (key.clone(), b.1.get(key).map_or(*val, |&other| resolved(how, *val, other)));
+    Ok(match r.below(3) {
+        0 => {
+            let mut twin = b.1.clone();
+            twin.extend(a.1.iter().map(at_both));
+            (a.0.union(&b.0, how)?, twin)
+        }
+        1 => (a.0.intersection(&b.0, how)?, a.1.iter().filter(|(key, _)| b.1.contains_key(*key)).map(at_both).collect()),
+        _ => (a.0.difference(&b.0)?, a.1.iter().filter(|(key, _)| !b.1.contains_key(*key)).map(pair).collect()),
+    })
+}
+
+#[test]
+fn text_maps_are_as_btree_maps() -> Result<(), NoMemory> {
+    let begin = || Ok([(TextMap::new()?, TextTwin::new()), (TextMap::new()?, TextTwin::new())]);
+    steps(begin, |pairs, r| {
+        let (a, b, c) = (r.below(2) as usize, r.below(2) as usize, r.below(2) as usize);
+        match r.below(40) {
+            0 => pairs[c] = joined_texts(&pairs[a], &pairs[b], r)?,
+            1 => pairs[c] = (pairs[a].0.clone(), pairs[a].1.clone()),
+            2 => {
+                let some: Vec<(Vec<u8>, u64)> = (0..r.below(600)).map(|_| (r.word(), r.number())).collect();
+                pairs[a].0.extend(some.iter().cloned());
+                pairs[a].1.extend(some);
+                same_texts(&pairs[a].0, &pairs[a].1);
+            }
+            3 => {
+                let (map, twin) = &mut pairs[a];
+                text_parts(map, twin, r)?;
+            }
+            4 => assert_eq!(pairs[a].0 == pairs[b].0, pairs[a].1 == pairs[b].1),
+            _ => {
+                let (map, twin) = &mut pairs[a];
+                single_text(map, twin, r)?;
+            }
         }
         Ok(())
     })

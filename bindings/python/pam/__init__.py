@@ -1,4 +1,5 @@
-"""Persistent ordered maps, sequences and interval sets of 64-bit numbers, with the sum and the greatest of any part at hand.
+"""Persistent ordered maps, sequences and interval sets of 64-bit numbers, and maps from byte strings to such numbers, with the sum
+and the greatest of any part at hand.
 
 >>> import pam
 >>> sales = pam.Map({540: 12, 541: 7, 545: 30})
@@ -10,5 +11,6 @@
 from ._intervals import Intervals
 from ._map import Map
 from ._seq import Seq
+from ._text_map import TextMap
 
-__all__ = ["Intervals", "Map", "Seq"]
+__all__ = ["Intervals", "Map", "Seq", "TextMap"]

@@ -15,7 +15,8 @@ OK, NOT_THERE, NO_ROOM, NOT_A_MAP, BAD_CALL, NO_MEMORY = 0, 1, 2, 3, 4, 7
 RESOLUTIONS = {"first": 0, "second": 1, "sum": 2, "max": 3}
 
 
-# The parameters of each call after its first handle: a number, where one is written to, a byte, a handle, an array with its length.
+# The parameters of each call after its first handle: a number, where one is written to, a byte, a handle, an array with its length,
+# which bytes are too where the call only reads it.
 # A size_t is a number, as the library is of 64-bit machines.
 _SIGNATURES = {
     "pam_map_": {
@@ -23,6 +24,12 @@ _SIGNATURES = {
         "rank": "nw", "select": "nww", "next": "nww", "prev": "nww", "first": "ww", "last": "ww", "union": "hbh",
         "intersection": "hbh", "difference": "hh", "split": "nhh", "range": "nnh", "fill": "naaw", "build": "aa",
         "put_many": "aa", "get_many": "aaa", "del_many": "a", "bytes": "aw", "from_bytes": "a",
+    },
+    "pam_text_map_": {
+        "new": "", "free": "", "share": "h", "len": "w", "get": "aw", "contains": "a", "put": "an", "del": "a", "fold": "ww",
+        "fold_range": "aaww", "rank": "aw", "select": "naww", "next": "aaww", "prev": "aaww", "first": "aww", "last": "aww",
+        "union": "hbh", "intersection": "hbh", "difference": "hh", "split": "ahh", "range": "aah", "fill": "aaaaw",
+        "put_many": "aaa",
     },
     "pam_seq_": {
         "new": "", "free": "", "share": "h", "len": "w", "get": "nw", "set": "nn", "push": "n", "push_many": "a", "build": "a",
@@ -96,6 +103,10 @@ class Handle(ctypes.Structure):
 
 class MapHandle(Handle):
     free = lib.pam_map_free
+
+
+class TextMapHandle(Handle):
+    free = lib.pam_text_map_free
 
 
 class SeqHandle(Handle):

@@ -170,6 +170,87 @@ class Maps(unittest.TestCase):
         self.assertEqual(repr(pam.Map((k, 0) for k in range(11))), "Map({0: 0, 1: 0, 2: 0, 3: 0, 4: 0, 5: 0, 6: 0, 7: 0, 8: 0, 9: 0, ...})")
 
 
+class TextMaps(unittest.TestCase):
+    def setUp(self):
+        self.map = pam.TextMap({"": 5, "bar": 10, "foo": 30})
+
+    def test_entries(self):
+        m = self.map
+        self.assertEqual((m["bar"], m[b"bar"], m[""], m.get("ba"), m.get("ba", 7), len(m), "foo" in m, b"fo" in m), (10, 10, 5, None, 7, 3, True, False))
+        m["é"] = 20
+        self.assertEqual(m["é".encode()], 20)
+        del m[""]
+        self.assertEqual(dict(m), {b"bar": 10, b"foo": 30, "é".encode(): 20})
+        self.assertEqual((m.pop("bar"), m.pop("bar", None), m.setdefault("foo", 1)), (10, None, 30))
+        with self.assertRaises(KeyError):
+            m["bar"]
+        with self.assertRaises(KeyError):
+            del m["bar"]
+        m.clear()
+        self.assertFalse(m)
+
+    def test_keys_and_values_that_are_none(self):
+        m = self.map
+        for key in (1, 1.0, None, ("a",)):
+            for call in (m.__getitem__, m.get, m.__contains__, m.__delitem__, m.bisect, m.next_item):
+                self.assertRaises(TypeError, call, key)
+            self.assertRaises(TypeError, m.__setitem__, key, 1)
+        for val in (-1, 2**64):
+            self.assertRaises(OverflowError, m.__setitem__, "a", val)
+            self.assertRaises(OverflowError, m.put_many, [("a", val)])
+        self.assertRaises(TypeError, m.__setitem__, "a", "1")
+        self.assertEqual(len(m), 3)
+
+    def test_equal_to_mappings(self):
+        m = pam.TextMap({"a": 1})
+        self.assertEqual((m == {"a": 1}, m == {b"a": 1}, m == {"a": 2}, m == {}), (True, True, False, False))
+        self.assertEqual((m == {1: 1}, m == {"\ud800": 1}, m == {"a": 1, b"a": 1}, m == [("a", 1)]), (False, False, False, False))
+
+    def test_order(self):
+        m = self.map
+        m[b"foo\0"] = 1
+        m["x" * 1000] = 2
+        self.assertEqual(list(m), [b"", b"bar", b"foo", b"foo\0", b"x" * 1000])
+        self.assertEqual(list(reversed(m)), list(m)[::-1])
+        self.assertEqual((m.bisect_left("foo"), m.bisect_right("foo"), m.peekitem(), m.peekitem(0)), (2, 3, (b"x" * 1000, 2), (b"", 5)))
+        self.assertEqual((m.next_item("foo"), m.prev_item("foo"), m.next_item("y"), m.prev_item("")), ((b"foo\0", 1), (b"bar", 10), None, None))
+        self.assertEqual(m.popitem(), (b"x" * 1000, 2))
+        self.assertRaises(IndexError, m.peekitem, 9)
+
+    def test_parts(self):
+        m = pam.TextMap((f"{k:03}", k) for k in range(100))
+        self.assertEqual(list(m["010":"013"]), [b"010", b"011", b"012"])
+        self.assertEqual((m["010":"013"].sum(), m.sum("010", "013"), m.max("010", "013"), m.sum("1")), (33, 33, 12, 0))
+        self.assertEqual(list(m.irange("010", "012")), [b"010", b"011", b"012"])
+        self.assertEqual((len(m[:"01"]), len(m["09":]), len(m[:]), len(m["5":"4"])), (10, 10, 100, 0))
+        self.assertRaises(ValueError, lambda: m["a":"b":2])
+        self.assertRaises(ValueError, m.max, "1")
+        del m["005":"095"]
+        self.assertEqual(len(m), 10)
+
+    def test_walks_and_snapshots(self):
+        m = pam.TextMap((f"{k:05}", k) for k in range(3000))
+        kept = m.copy()
+        for key in m:
+            m[key + b"!"] = m.pop(key)
+        self.assertEqual([key[:-1] for key in m], list(kept))
+        self.assertEqual(list(kept.items())[-1], (b"02999", 2999))
+        self.assertEqual(pickle.loads(pickle.dumps(kept)), kept)
+        self.assertEqual((kept == copy.deepcopy(kept), kept == m), (True, False))
+
+    def test_set_operations(self):
+        a, b = pam.TextMap({"a": 10, "b": 20}), pam.TextMap({"b": 5, "c": 30})
+        self.assertEqual((a | b, a & b, a - b), ({"a": 10, "b": 5, "c": 30}, {"b": 20}, {"a": 10}))
+        self.assertEqual({how: a.union(b, how)["b"] for how in ("first", "second", "sum", "max")}, {"first": 20, "second": 5, "sum": 25, "max": 20})
+        self.assertRaises(ValueError, a.union, b, "least")
+        self.assertRaises(TypeError, a.union, {"b": 5})
+
+    def test_closed(self):
+        self.map.close()
+        for call in (len, list, pam.TextMap.sum):
+            self.assertRaises(ValueError, call, self.map)
+
+
 class Sequences(unittest.TestCase):
     def test_as_a_list(self):
         s, twin = pam.Seq(range(50)), list(range(50))
@@ -319,7 +400,7 @@ class Lives(unittest.TestCase):
 
 
 def load_tests(_loader, tests, _pattern):
-    for name in ("pam", "pam._map", "pam._seq", "pam._intervals"):
+    for name in ("pam", "pam._map", "pam._text_map", "pam._seq", "pam._intervals"):
         tests.addTests(doctest.DocTestSuite(importlib.import_module(name)))
     tests.addTests(doctest.DocFileSuite("../README.md"))
     return tests

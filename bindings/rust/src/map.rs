@@ -20,7 +20,7 @@ pub enum Resolve {
 }
 
 impl Resolve {
-    fn code(self) -> u8 {
+    pub(crate) fn code(self) -> u8 {
         match self {
             Resolve::First => 0,
             Resolve::Second => 1,

@@ -26,6 +26,7 @@ pub trait Kind {
 }
 
 pub struct MapKind;
+pub struct TextMapKind;
 pub struct SeqKind;
 pub struct IntervalsKind;
 
@@ -132,6 +133,7 @@ macro_rules! kinds {
 
 kinds! {
     MapKind: pam_map_new pam_map_free pam_map_share pam_map_len;
+    TextMapKind: pam_text_map_new pam_text_map_free pam_text_map_share pam_text_map_len;
     SeqKind: pam_seq_new pam_seq_free pam_seq_share pam_seq_len;
     IntervalsKind: pam_intervals_new pam_intervals_free pam_intervals_share pam_intervals_len;
 }
@@ -160,6 +162,25 @@ extern "C" {
     pub fn pam_map_del_many(m: *mut Raw, keys: *const u64, keys_len: usize) -> u8;
     pub fn pam_map_bytes(m: *mut Raw, out: *mut u8, room: usize, needed: *mut usize) -> u8;
     pub fn pam_map_from_bytes(m: *mut Raw, bytes: *const u8, len: usize) -> u8;
+
+    pub fn pam_text_map_get(m: *mut Raw, key: *const u8, len: usize, val: *mut u64) -> u8;
+    pub fn pam_text_map_contains(m: *mut Raw, key: *const u8, len: usize) -> u8;
+    pub fn pam_text_map_put(m: *mut Raw, key: *const u8, len: usize, val: u64) -> u8;
+    pub fn pam_text_map_del(m: *mut Raw, key: *const u8, len: usize) -> u8;
+    pub fn pam_text_map_fold(m: *mut Raw, sum: *mut u64, greatest: *mut u64) -> u8;
+    pub fn pam_text_map_fold_range(m: *mut Raw, lo: *const u8, lo_len: usize, hi: *const u8, hi_len: usize, sum: *mut u64, greatest: *mut u64) -> u8;
+    pub fn pam_text_map_rank(m: *mut Raw, key: *const u8, len: usize, rank: *mut u64) -> u8;
+    pub fn pam_text_map_select(m: *mut Raw, at: u64, key: *mut u8, room: usize, key_len: *mut usize, val: *mut u64) -> u8;
+    pub fn pam_text_map_next(m: *mut Raw, than: *const u8, than_len: usize, key: *mut u8, room: usize, key_len: *mut usize, val: *mut u64) -> u8;
+    pub fn pam_text_map_prev(m: *mut Raw, than: *const u8, than_len: usize, key: *mut u8, room: usize, key_len: *mut usize, val: *mut u64) -> u8;
+    pub fn pam_text_map_first(m: *mut Raw, key: *mut u8, room: usize, key_len: *mut usize, val: *mut u64) -> u8;
+    pub fn pam_text_map_last(m: *mut Raw, key: *mut u8, room: usize, key_len: *mut usize, val: *mut u64) -> u8;
+    pub fn pam_text_map_union(a: *mut Raw, b: *mut Raw, how: u8, out: *mut Raw) -> u8;
+    pub fn pam_text_map_intersection(a: *mut Raw, b: *mut Raw, how: u8, out: *mut Raw) -> u8;
+    pub fn pam_text_map_difference(a: *mut Raw, b: *mut Raw, out: *mut Raw) -> u8;
+    pub fn pam_text_map_split(m: *mut Raw, key: *const u8, len: usize, below: *mut Raw, from: *mut Raw) -> u8;
+    pub fn pam_text_map_fill(m: *mut Raw, from: *const u8, from_len: usize, keys: *mut u8, room: usize, ends: *mut usize, ends_len: usize, vals: *mut u64, vals_len: usize, count: *mut usize) -> u8;
+    pub fn pam_text_map_put_many(m: *mut Raw, keys: *const u8, keys_len: usize, ends: *const usize, ends_len: usize, vals: *const u64, vals_len: usize) -> u8;
 
     pub fn pam_seq_get(s: *mut Raw, place: u64, item: *mut u64) -> u8;
     pub fn pam_seq_set(s: *mut Raw, place: u64, item: u64) -> u8;

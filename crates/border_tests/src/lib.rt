@@ -11,3 +11,5 @@ mod maps;
 mod maps_as_bytes;
 #[cfg(test)]
 mod seqs;
+#[cfg(test)]
+mod text_maps;

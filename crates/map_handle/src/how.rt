@@ -7,7 +7,7 @@ use std::alloc::Global;
 
 /// How the value at a key that two maps have is made of the value in the first and the value in the second.
 #[derive(Drop)]
-pub(crate) enum How {
+pub enum How {
     First,
     Second,
     /// A sum above `u64::MAX` is `u64::MAX`.
@@ -31,7 +31,7 @@ impl Resolve<u64> for How {
 }
 
 /// The way that a number of C's names.
-pub(crate) fn how_of(number: u8) -> Option<How>
+pub fn how_of(number: u8) -> Option<How>
     ensures { result ≡ how_at number }
 {
     if number == 0 {

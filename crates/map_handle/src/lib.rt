@@ -26,6 +26,7 @@ pub use combining::{intersection, union};
 pub use cross::kept_crosses;
 pub use filling::fill;
 pub use handle::{Handle, closed, free, new};
+pub use how::{How, how_of};
 pub use making::{difference, range, share, split};
 pub use points::{del, get, put};
 pub use reading::{first, fold, fold_range, last, len, next, prev, rank, select};

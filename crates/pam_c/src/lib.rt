@@ -10,3 +10,4 @@
 mod intervals;
 mod maps;
 mod seqs;
+mod text_maps;

@@ -1,0 +1,4 @@
+pub mod Combined
+pub mod Fitting
+pub mod Rows
+mod Values
