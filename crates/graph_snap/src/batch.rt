@@ -60,6 +60,14 @@ fn in_order<R: Threads + Sync, G: Gate>(
     as_pairs(alloc, &keys)
 }
 
+// `in_order` on one thread.
+fn in_order_alone(alloc: Global, list: &[Edge]) -> Result<Vec<(u64, u64)>, NoMemory>
+    ensures { IfOk result (λ edges. edges.items ≡ with_edges [] (pairs_of list.now)) }
+{
+    let keys = set_of_alone(alloc, &Keys { turned: false }, list)?;
+    as_pairs(alloc, &keys)
+}
+
 // Edges turned round, in order, each once, on one thread.
 fn turned_in_order(alloc: Global, list: &[Edge]) -> Result<Vec<(u64, u64)>, NoMemory>
     ensures { IfOk result (λ edges. edges.items ≡ reversed (pairs_of list.now)) }
@@ -107,6 +115,18 @@ pub(crate) fn sets_of<R: Threads + Sync, G: Gate>(
     ensures edges { IfOk result (λ sets. edges_of sets.items ≡ with_edges [] (pairs_of list.now)) }
 {
     let edges = in_order(on, alloc, list)?;
+    grouped(alloc, &edges)
+}
+
+/// `sets_of` on one thread.
+pub(crate) fn sets_of_alone(
+    alloc: Global,
+    list: &[Edge],
+) -> Result<Vec<(u64, Neighbours)>, NoMemory>
+    ensures sets { IfOk result (λ sets. AreSets sets.items) }
+    ensures edges { IfOk result (λ sets. edges_of sets.items ≡ with_edges [] (pairs_of list.now)) }
+{
+    let edges = in_order_alone(alloc, list)?;
     grouped(alloc, &edges)
 }
 

@@ -4,7 +4,7 @@ ghost use Rattle.graph_snap.specs.Edges.{AreSets, IsGraph, IsReverse, edges_of, 
 ghost use Rattle.graph_snap.specs.Edges.{reversed, sources, with_edges, without_edges};
 ghost use Rattle.graph_snap.specs.Walks.{HasDistances, IsLeastPath, IsOutOfReach, reach, reach_within};
 
-use crate::batch::{sets_of, turned_sets};
+use crate::batch::{sets_of, sets_of_alone, turned_sets};
 use crate::counting::edges_in;
 use crate::edge::{Edge, Reached};
 use crate::least_path::least_path;
@@ -12,7 +12,8 @@ use crate::listing::edge_list;
 use crate::search::search;
 use crate::search_alone::search_within;
 use crate::vertices::{
-    Vertices, degree_at, has_edge, neighbours_at, with_sets, with_sets_into, without_sets,
+    Vertices, degree_at, has_edge, neighbours_at, with_sets, with_sets_alone, with_sets_into,
+    with_sets_into_alone, without_sets, without_sets_alone,
 };
 use aug_map::PlainMap;
 use aug_monoid::{NoMemory, Share};
@@ -69,6 +70,16 @@ impl Graph {
             vertices: PlainMap::empty(),
             edges: 0,
         }
+    }
+
+    // The map of the graph, which is given up.
+    fn into_vertices(self) -> Vertices
+        ensures sets { AreSets result.entries }
+        ensures edges { edges_of result.entries ≡ self }
+    {
+        let mut graph = self;
+        graph.edges = 0;
+        mem::replace(&mut graph.vertices, PlainMap::empty())
     }
 
     /// The map from vertices to their sets of out-neighbours. Its keys are the vertices with an out-neighbour.
@@ -143,6 +154,17 @@ impl Graph {
         Ok(Graph { vertices, edges })
     }
 
+    /// `add_edges` on one thread. O(k * log(n * k)) for k edges and n vertices.
+    pub fn add_edges_alone(&self, alloc: Global, list: &[Edge]) -> Result<Graph, NoMemory>
+        ensures { IfOk result (λ graph. graph ≡ with_edges self.now (pairs_of list.now)) }
+    {
+        let changed = sets_of_alone(alloc, list)?;
+        let batch = Vertices::build_alone(alloc, &changed)?;
+        let vertices = with_sets_alone(alloc, &self.vertices, &batch)?;
+        let edges = edges_in(&vertices)?;
+        Ok(Graph { vertices, edges })
+    }
+
     /// `add_edges` of a graph that is given up: what of its map has one owner is moved, and what has more is copied, so that
     /// copies of the graph that were taken before stay as they were. The sets that gain edges are made anew. In the time of
     /// `add_edges`, and a refusal gives the graph up.
@@ -158,10 +180,17 @@ impl Graph {
     {
         let on = On { rt, gate, cut };
         let changed = sets_of(on, alloc, list)?;
-        let mut graph = self;
-        graph.edges = 0;
-        let vertices = mem::replace(&mut graph.vertices, PlainMap::empty());
-        let vertices = with_sets_into(on, alloc, vertices, &changed)?;
+        let vertices = with_sets_into(on, alloc, self.into_vertices(), &changed)?;
+        let edges = edges_in(&vertices)?;
+        Ok(Graph { vertices, edges })
+    }
+
+    /// `add_edges_into` on one thread. O(k * log(n * k)) for k edges and n vertices.
+    pub fn add_edges_into_alone(self, alloc: Global, list: &[Edge]) -> Result<Graph, NoMemory>
+        ensures { IfOk result (λ graph. graph ≡ with_edges self (pairs_of list.now)) }
+    {
+        let changed = sets_of_alone(alloc, list)?;
+        let vertices = with_sets_into_alone(alloc, self.into_vertices(), &changed)?;
         let edges = edges_in(&vertices)?;
         Ok(Graph { vertices, edges })
     }
@@ -181,6 +210,17 @@ impl Graph {
         let changed = sets_of(on, alloc, list)?;
         let batch = Vertices::build(rt, alloc, gate, cut, &changed)?;
         let vertices = without_sets(on, alloc, &self.vertices, &batch)?;
+        let edges = edges_in(&vertices)?;
+        Ok(Graph { vertices, edges })
+    }
+
+    /// `cut_edges` on one thread. O(k * log(n * k)) for k edges and n vertices.
+    pub fn cut_edges_alone(&self, alloc: Global, list: &[Edge]) -> Result<Graph, NoMemory>
+        ensures { IfOk result (λ graph. graph ≡ without_edges self.now (pairs_of list.now)) }
+    {
+        let changed = sets_of_alone(alloc, list)?;
+        let batch = Vertices::build_alone(alloc, &changed)?;
+        let vertices = without_sets_alone(alloc, &self.vertices, &batch)?;
         let edges = edges_in(&vertices)?;
         Ok(Graph { vertices, edges })
     }

@@ -4,7 +4,8 @@
 //! gaps. `add_edges` and `cut_edges` take edges in any order and answer a new graph, which shares what it can with the old one;
 //! `bfs` answers what walks from a vertex reach, with the least numbers of edges, `within` what of it is not too far, `path` the
 //! vertices of one walk of least length, and `reversed` turns each edge round. What is called with a runtime and a cut forks where
-//! the cut allows it, and answers the same on any number of threads. A call refuses only for want of memory.
+//! the cut allows it, and answers the same on any number of threads, as its twin with a name in `_alone` does on one. A call refuses
+//! only for want of memory.
 //!
 //! Tests: `library_tests`. Wrong bodies: here, in `wrong-bodies/`.
 #![tactic(auto)]

@@ -96,6 +96,20 @@ pub(crate) fn with_sets<R: Threads + Sync, G: Gate>(
     vertices.union(on.rt, alloc, on.gate, on.cut, batch, &Merge)
 }
 
+/// `with_sets` on one thread.
+pub(crate) fn with_sets_alone(
+    alloc: Global,
+    vertices: &Vertices,
+    batch: &Vertices,
+) -> Result<Vertices, NoMemory>
+    requires vertices { AreSets vertices.now.entries }
+    requires batch { AreSets batch.now.entries }
+    ensures sets { IfOk result (λ map. AreSets map.entries) }
+    ensures edges { IfOk result (λ map. IsUnited vertices.now.entries batch.now.entries map.entries) }
+{
+    vertices.union_alone(alloc, batch, &Merge)
+}
+
 /// The map, which is given up, with the edges of a list of sets too.
 pub(crate) fn with_sets_into<R: Threads + Sync, G: Gate>(
     on: On<R, G>,
@@ -109,6 +123,20 @@ pub(crate) fn with_sets_into<R: Threads + Sync, G: Gate>(
     ensures edges { IfOk result (λ map. IsUnited vertices.entries batch.now map.entries) }
 {
     vertices.union_into(on.rt, alloc, on.gate, on.cut, batch, &Merge)
+}
+
+/// `with_sets_into` on one thread.
+pub(crate) fn with_sets_into_alone(
+    alloc: Global,
+    vertices: Vertices,
+    batch: &[(u64, Neighbours)],
+) -> Result<Vertices, NoMemory>
+    requires vertices { AreSets vertices.entries }
+    requires batch { AreSets batch.now }
+    ensures sets { IfOk result (λ map. AreSets map.entries) }
+    ensures edges { IfOk result (λ map. IsUnited vertices.entries batch.now map.entries) }
+{
+    vertices.union_into_alone(alloc, batch, &Merge)
 }
 
 /// The map without the edges of another one. A vertex that has no edge left is no key.
@@ -127,4 +155,21 @@ pub(crate) fn without_sets<R: Threads + Sync, G: Gate>(
     let left = changed.filter(on.rt, alloc, on.gate, on.cut, &HasElements)?;
     let others = vertices.difference(on.rt, alloc, on.gate, on.cut, batch)?;
     others.union(on.rt, alloc, on.gate, on.cut, &left, &First)
+}
+
+/// `without_sets` on one thread.
+pub(crate) fn without_sets_alone(
+    alloc: Global,
+    vertices: &Vertices,
+    batch: &Vertices,
+) -> Result<Vertices, NoMemory>
+    requires vertices { AreSets vertices.now.entries }
+    requires batch { AreSets batch.now.entries }
+    ensures sets { IfOk result (λ map. AreSets map.entries) }
+    ensures edges { IfOk result (λ map. IsLessened vertices.now.entries batch.now.entries map.entries) }
+{
+    let changed = vertices.intersect_alone(alloc, batch, &Minus)?;
+    let left = changed.filter_alone(alloc, &HasElements)?;
+    let others = vertices.difference_alone(alloc, batch)?;
+    others.union_alone(alloc, &left, &First)
 }

@@ -16,3 +16,4 @@ pub mod Contents
 pub mod Crosses
 pub mod Removed
 pub mod Prefixes
+pub mod Questions

@@ -8,3 +8,4 @@ pub mod Merging
 pub mod Added
 pub mod Batches
 pub mod Removing
+pub mod Matching

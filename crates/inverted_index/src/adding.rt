@@ -7,7 +7,7 @@ ghost use Rattle.inverted_index.specs.Merging.{merged};
 ghost use Rattle.inverted_index.specs.Terms.{bytes_cmp};
 ghost use Rattle.aug_monoid.specs.Fresh.{IsFresh};
 
-use crate::batch::{Gathered, gathered_all};
+use crate::batch::{Gathered, gathered_all, gathered_part};
 use crate::doc::{AddedDocs, Doc, Outcome};
 use crate::index::{Index, Lists};
 use crate::marking::{Marked, mark_new};
@@ -59,6 +59,22 @@ fn lists_after<R: Threads + Sync, G: Gate>(
     })
 }
 
+// `lists_after` on one thread.
+fn lists_after_alone(
+    alloc: Global,
+    lists: &Lists,
+    docs: &[Marked<'_>],
+) -> Result<Gathered, NoMemory>
+    ensures lists { IfOk result (λ out. (batch : List (List ℕ × List (ℕ × ℕ))) × IsGathered docs.now batch out.outcomes.items × (out.lists.entries ≡ union bytes_cmp merged lists.now.entries batch)) }
+{
+    let batch = gathered_part(alloc, docs)?;
+    let lists = lists.union_alone(alloc, &batch.lists, &Merge)?;
+    Ok(Gathered {
+        lists,
+        outcomes: batch.outcomes,
+    })
+}
+
 impl Index {
     /// Adds documents in order, each as `add_doc` adds one, in one union with the postings of them all. For n terms in all, in
     /// documents that are new, it takes about n * log n work, and as much as the union of the terms with those of the index. Texts
@@ -87,6 +103,20 @@ impl Index {
         })
     }
 
+    /// `add_docs` on one thread. O(b + n * log n + m * log(t + d)) for new documents of b bytes in all with n terms, of which m
+    /// differ, and an index of t terms and d documents.
+    pub fn add_docs_alone(&self, alloc: Global, docs: &[Doc<'_>]) -> Result<AddedDocs, NoMemory>
+        ensures index { IfOk result (λ added. added.index ≡ with_docs self.now docs.now) }
+        ensures outcomes { IfOk result (λ added. added.outcomes.items ≡ outcomes_of self.now docs.now) }
+    {
+        let (known, marks) = known_after::<Brand>(alloc, &self.known, docs, Blank::new(1))?;
+        let Gathered { lists, outcomes } = lists_after_alone(alloc, &self.lists, &marks)?;
+        Ok(AddedDocs {
+            index: Index { known, lists },
+            outcomes,
+        })
+    }
+
     /// Adds a document with the terms of a text, which are its longest runs of ASCII letters and digits, made small; the weight
     /// of a term is how often the text has it. A known document changes nothing. O(log d) for an index of d documents where it is
     /// known, and O(b + n * log n + m * log(t + d)) where it is new, for a text of b bytes with n terms, of which m differ, and an
@@ -105,6 +135,20 @@ impl Index {
     {
         let docs = [Doc { doc, text }];
         let AddedDocs { index, outcomes } = self.add_docs(rt, alloc, gate, cut, &docs)?;
+        match outcomes[0] {
+            Outcome::Known => Ok(Added::Known),
+            Outcome::New { terms } => Ok(Added::New { index, terms }),
+        }
+    }
+    /// `add_doc` on one thread. O(log d) for an index of d documents where the document is known, and
+    /// O(b + n * log n + m * log(t + d)) where it is new, for a text of b bytes with n terms, of which m differ, and an index of t
+    /// terms.
+    #[tactic(auto, using(crate::proofs::OneMore::known_told, crate::proofs::OneMore::new_told))]
+    pub fn add_doc_alone(&self, alloc: Global, doc: u64, text: &[u8]) -> Result<Added, NoMemory>
+        ensures { IfOk result (λ added. IsAdded self.now doc text.now added) }
+    {
+        let docs = [Doc { doc, text }];
+        let AddedDocs { index, outcomes } = self.add_docs_alone(alloc, &docs)?;
         match outcomes[0] {
             Outcome::Known => Ok(Added::Known),
             Outcome::New { terms } => Ok(Added::New { index, terms }),

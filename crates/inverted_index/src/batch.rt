@@ -100,9 +100,9 @@ fn gather(alloc: Global, table: &mut Table, doc: &Marked<'_>) -> Result<Outcome,
     })
 }
 
-// The postings of documents, at once.
+/// The postings of those documents that are new, at once.
 #[tactic(auto, using(crate::proofs::Batches::table_more))]
-fn gathered_part(alloc: Global, docs: &[Marked<'_>]) -> Result<Gathered, NoMemory>
+pub(crate) fn gathered_part(alloc: Global, docs: &[Marked<'_>]) -> Result<Gathered, NoMemory>
     ensures { IfOk result (λ out. IsGathered docs.now out.lists.entries out.outcomes.items) }
 {
     let mut table = BTreeMap::new(alloc);

@@ -84,6 +84,20 @@ fn common<R: Threads + Sync, G: Gate>(
     Ok(found)
 }
 
+// `common` on one thread.
+#[tactic(auto, using(crate::proofs::Steps::common_more))]
+fn common_alone(alloc: Global, start: &Weights, lists: &[Postings]) -> Result<Weights, NoMemory>
+    ensures entries { IfOk result (λ found. found.entries ≡ common start.now.entries lists.now) }
+    ensures rises { IfOk result (λ found. IsIncreasing nat_cmp found.entries) }
+{
+    let mut found = start.share(alloc)?;
+    for list in lists {
+        found = found.intersect_alone(alloc, list.map(), &SatSum)?;
+    }
+    let _size = found.size(); // for the proof alone: keys rise
+    Ok(found)
+}
+
 /// The documents that all lists have, with the sums of their weights; the known documents where there are no lists.
 pub(crate) fn common_of<R: Threads + Sync, G: Gate>(
     on: On<R, G>,
@@ -100,6 +114,21 @@ pub(crate) fn common_of<R: Threads + Sync, G: Gate>(
     }
 }
 
+/// `common_of` on one thread.
+pub(crate) fn common_of_alone(
+    alloc: Global,
+    known: &Weights,
+    lists: &[Postings],
+) -> Result<Weights, NoMemory>
+    ensures entries { IfOk result (λ found. found.entries ≡ common_of known.now.entries lists.now) }
+    ensures rises { IfOk result (λ found. IsIncreasing nat_cmp found.entries) }
+{
+    match lists {
+        [] => common_alone(alloc, known, lists),
+        [first, rest @ ..] => common_alone(alloc, first.map(), rest),
+    }
+}
+
 /// The documents that one of the lists has, with the sums of their weights.
 #[tactic(auto, using(crate::proofs::Steps::union_all_more))]
 pub(crate) fn union_all<R: Threads + Sync, G: Gate>(
@@ -113,6 +142,20 @@ pub(crate) fn union_all<R: Threads + Sync, G: Gate>(
     let mut found = Weights::empty();
     for list in lists {
         found = found.union(on.rt, alloc, on.gate, on.cut, list.map(), &SatSum)?;
+    }
+    let _size = found.size(); // for the proof alone: keys rise
+    Ok(found)
+}
+
+/// `union_all` on one thread.
+#[tactic(auto, using(crate::proofs::Steps::union_all_more))]
+pub(crate) fn union_all_alone(alloc: Global, lists: &[Postings]) -> Result<Weights, NoMemory>
+    ensures entries { IfOk result (λ found. found.entries ≡ union_all [] lists.now) }
+    ensures rises { IfOk result (λ found. IsIncreasing nat_cmp found.entries) }
+{
+    let mut found = Weights::empty();
+    for list in lists {
+        found = found.union_alone(alloc, list.map(), &SatSum)?;
     }
     let _size = found.size(); // for the proof alone: keys rise
     Ok(found)

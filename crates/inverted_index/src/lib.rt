@@ -4,7 +4,9 @@
 //! Documents are added one at a time or in batches (`add_doc`, `add_docs`), a term's weight being how often the text has it.
 //! `remove_doc` and `replace_doc` take one out again; `size`, `has_doc`, `doc_freq`, `terms` and `terms_from` tell what there is.
 //! `all_of`, `any_of` and `without` intersect, unite and take away postings; `top` answers the first documents by falling weight.
-//! An index is persistent: each answer shares what it can with the index before. A call refuses only for want of memory.
+//! `matching` answers the documents of a term as `Matches`, of which larger questions are put together, and their first documents.
+//! What is called with a runtime and a cut forks where the cut allows it; its twin with a name in `_alone` does the same on one
+//! thread. An index is persistent: each answer shares what it can with the index before. A call refuses only for want of memory.
 //!
 //! Tests: `library_tests`. Wrong bodies: here, in `wrong-bodies/`.
 #![tactic(auto)]
@@ -18,6 +20,7 @@ mod hit;
 mod index;
 mod listing;
 mod marking;
+mod matching;
 mod postings;
 mod queries;
 mod ranking;
@@ -34,5 +37,6 @@ pub use cross::index_crosses;
 pub use doc::{AddedDocs, Doc, Outcome};
 pub use hit::Hit;
 pub use index::{Index, Lists};
+pub use matching::Matches;
 pub use postings::{Postings, Weights};
 pub use term::{Term, TermFault, is_term};

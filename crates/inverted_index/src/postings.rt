@@ -83,6 +83,14 @@ impl Postings {
     {
         &self.weights
     }
+
+    /// The map from documents to weights.
+    pub(crate) fn into_map(self) -> Weights
+        ensures { result.entries ≡ self }
+    {
+        let Postings { weights } = self;
+        weights
+    }
 }
 
 impl Share for Postings {

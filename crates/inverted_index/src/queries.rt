@@ -8,7 +8,9 @@ ghost use Rattle.inverted_index.specs.Merging.{postings_at};
 ghost use Rattle.inverted_index.specs.Queries.{AreTop, all_of, any_of, having, hits_of, is_known, top, without};
 ghost use Rattle.aug_monoid.specs.Fresh.{IsFresh};
 
-use crate::finding::{by_size, common_of, find_list, find_lists, hits_of, union_all};
+use crate::finding::{
+    by_size, common_of, common_of_alone, find_list, find_lists, hits_of, union_all, union_all_alone,
+};
 use crate::hit::Hit;
 use crate::index::{Index, Lists};
 use crate::postings::{Postings, Weights};
@@ -21,8 +23,8 @@ use std::marker::{Brand, Sync};
 use std::sync::ledger::{Blank, Ledger};
 use std::thread::Threads;
 
-// The postings of one term.
-fn find_one<C: Ledger>(
+/// The postings of one term.
+pub(crate) fn find_one<C: Ledger>(
     alloc: Global,
     lists: &Lists,
     term: &Term,
@@ -82,6 +84,17 @@ impl Index {
         hits_of(alloc, &found)
     }
 
+    /// `all_of` on one thread. O(k * m * log(n / m + 1)) for k terms, of which the rarest has m documents and the commonest n,
+    /// beside the look-ups of the terms.
+    pub fn all_of_alone(&self, alloc: Global, terms: &[Term]) -> Result<Vec<Hit>, NoMemory>
+        ensures { IfOk result (λ hits. hits.items ≡ hits_of (all_of self.now terms.now)) }
+    {
+        let lists = find_lists::<Brand>(alloc, &self.lists, terms, Blank::new(1))?;
+        let sorted = by_size(lists)?;
+        let found = common_of_alone(alloc, &self.known, &sorted)?;
+        hits_of(alloc, &found)
+    }
+
     /// The documents that have one of the terms, by rising number, with weights as `all_of` has them; a term that a document
     /// hasn't weighs 0 there. O(k * n) work for k terms with n postings in all, beside the look-ups of the terms.
     pub fn any_of<R: Threads + Sync, G: Gate>(
@@ -96,6 +109,15 @@ impl Index {
     {
         let lists = find_lists::<Brand>(alloc, &self.lists, terms, Blank::new(1))?;
         let found = union_all(On { rt, gate, cut }, alloc, &lists)?;
+        hits_of(alloc, &found)
+    }
+
+    /// `any_of` on one thread. O(k * n) for k terms with n postings in all, beside the look-ups of the terms.
+    pub fn any_of_alone(&self, alloc: Global, terms: &[Term]) -> Result<Vec<Hit>, NoMemory>
+        ensures { IfOk result (λ hits. hits.items ≡ hits_of (any_of self.now terms.now)) }
+    {
+        let lists = find_lists::<Brand>(alloc, &self.lists, terms, Blank::new(1))?;
+        let found = union_all_alone(alloc, &lists)?;
         hits_of(alloc, &found)
     }
 
@@ -115,6 +137,16 @@ impl Index {
         let first = find_one::<Brand>(alloc, &self.lists, has, Blank::new(1))?;
         let second = find_one::<Brand>(alloc, &self.lists, not, Blank::new(1))?;
         let found = first.map().difference(rt, alloc, gate, cut, second.map())?;
+        hits_of(alloc, &found)
+    }
+
+    /// `without` on one thread. O(m * log(n / m + 1)) for m and n postings, m at most n, beside the look-ups of the terms.
+    pub fn without_alone(&self, alloc: Global, has: &Term, not: &Term) -> Result<Vec<Hit>, NoMemory>
+        ensures { IfOk result (λ hits. hits.items ≡ hits_of (without self.now has.now not.now)) }
+    {
+        let first = find_one::<Brand>(alloc, &self.lists, has, Blank::new(1))?;
+        let second = find_one::<Brand>(alloc, &self.lists, not, Blank::new(1))?;
+        let found = first.map().difference_alone(alloc, second.map())?;
         hits_of(alloc, &found)
     }
 

@@ -100,6 +100,23 @@ fn a_document_is_added_once_by_batches(rt: HostRuntime) -> Result<(), Fail> {
     Ok(())
 }
 
+/// What the second batch comes to, after the first, both on one thread.
+fn added_second_alone(alloc: Global) -> Result<AddedDocs, NoMemory> {
+    let first = Index::new().add_docs_alone(alloc, &docs(alloc, &FIRST)?)?;
+    first.index.add_docs_alone(alloc, &docs(alloc, &SECOND)?)
+}
+
+#[test]
+fn batches_on_one_thread(rt: HostRuntime) -> Result<(), Fail> {
+    let alloc = rt.alloc();
+    let second = added_second_alone(alloc)?;
+    let wanted = [Outcome::Known, new(2), Outcome::Known, Outcome::Known];
+    assert_eq!(rt; second.outcomes.as_slice(), wanted.as_slice());
+    let hits = second.index.top(alloc, 9, &term(alloc, b"to")?)?;
+    assert_hits(&rt, &hits, &[(9, 2), (1, 1)]);
+    Ok(())
+}
+
 #[test]
 fn the_first_text_of_a_document_counts(rt: HostRuntime) -> Result<(), Fail> {
     let rows: [(&[u8], &[(u64, u64)]); 5] = [

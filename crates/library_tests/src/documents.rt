@@ -59,7 +59,7 @@ fn count_of<R: Threads + Abort + Sync>(
 }
 
 /// The index of the texts.
-fn indexed<R: Threads + Abort + Sync>(rt: &R, alloc: Global) -> Index {
+pub(crate) fn indexed<R: Threads + Abort + Sync>(rt: &R, alloc: Global) -> Index {
     let mut index = Index::new();
     for (doc, text) in TEXTS {
         index = with_text(rt, alloc, index, doc, text);
@@ -67,7 +67,8 @@ fn indexed<R: Threads + Abort + Sync>(rt: &R, alloc: Global) -> Index {
     index
 }
 
-fn term<R: Abort>(rt: &R, alloc: Global, bytes: &[u8]) -> Term {
+/// The term that bytes are.
+pub(crate) fn term<R: Abort>(rt: &R, alloc: Global, bytes: &[u8]) -> Term {
     Term::of(alloc, bytes).expect(rt, "a term")
 }
 
@@ -95,7 +96,12 @@ fn are_same<R: Abort>(rt: &R, alloc: Global, bytes: &[u8], others: &[u8]) -> boo
     share == term(rt, alloc, others)
 }
 
-fn assert_hits<R: Abort>(rt: &R, hits: Result<Vec<Hit>, NoMemory>, wanted: &[(u64, u64)]) {
+/// Asserts what documents were found, and their weights.
+pub(crate) fn assert_hits<R: Abort>(
+    rt: &R,
+    hits: Result<Vec<Hit>, NoMemory>,
+    wanted: &[(u64, u64)],
+) {
     let hits = hits.expect(rt, "memory");
     assert_eq!(rt; hits.len(), wanted.len());
     for (hit, pair) in hits.iter().zip(wanted) {
@@ -134,6 +140,38 @@ fn a_document_is_added_once(rt: HostRuntime) {
     assert_counts(&rt, rt.alloc(), &index);
 }
 
+/// The index with a document of a text, on one thread, and how many terms it has; none where it is known.
+fn with_alone<R: Abort>(
+    rt: &R,
+    alloc: Global,
+    index: &Index,
+    doc: u64,
+    text: &[u8],
+) -> Option<(Index, u64)> {
+    match index.add_doc_alone(alloc, doc, text).expect(rt, "memory") {
+        Added::Known => None,
+        Added::New { index, terms } => Some((index, terms)),
+    }
+}
+
+#[test]
+fn a_document_is_added_once_on_one_thread(rt: HostRuntime) {
+    let alloc = rt.alloc();
+    let index = Index::new();
+    let (index, terms) = with_alone(&rt, alloc, &index, 9, b"to be, or not to be").expect(
+        &rt, "new",
+    );
+    assert_eq!(rt; (index.size(), terms), (1, 4));
+    assert!(rt; with_alone(&rt, alloc, &index, 9, b"again").is_none());
+    let (index, terms) = with_alone(&rt, alloc, &index, 4, b"Not yet").expect(&rt, "new");
+    assert_eq!(rt; (index.size(), terms), (2, 2));
+    assert_hits(
+        &rt,
+        index.top(alloc, 9, &term(&rt, alloc, b"not")),
+        &[(4, 1), (9, 1)],
+    );
+}
+
 /// Asserts what the postings of the term at a place in the order of bytes are.
 fn assert_postings<R: Abort>(
     rt: &R,
@@ -169,6 +207,7 @@ fn assert_all_of<R: Threads + Abort + Sync>(rt: &R, alloc: Global, index: &Index
         let terms = terms(rt, alloc, words);
         let hits = index.all_of(rt, alloc, &FreeGate, Cut::new(2, 1), &terms);
         assert_hits(rt, hits, wanted);
+        assert_hits(rt, index.all_of_alone(alloc, &terms), wanted);
     }
 }
 
@@ -193,6 +232,7 @@ fn assert_any_of<R: Threads + Abort + Sync>(rt: &R, alloc: Global, index: &Index
         let terms = terms(rt, alloc, words);
         let hits = index.any_of(rt, alloc, &FreeGate, Cut::new(2, 1), &terms);
         assert_hits(rt, hits, wanted);
+        assert_hits(rt, index.any_of_alone(alloc, &terms), wanted);
     }
 }
 
@@ -215,6 +255,7 @@ fn assert_without<R: Threads + Abort + Sync>(rt: &R, alloc: Global, index: &Inde
         let not = term(rt, alloc, not);
         let hits = index.without(rt, alloc, &FreeGate, Cut::new(2, 1), &has, &not);
         assert_hits(rt, hits, wanted);
+        assert_hits(rt, index.without_alone(alloc, &has, &not), wanted);
     }
 }
 
@@ -437,6 +478,30 @@ fn replaced<R: Threads + Abort + Sync>(
 fn a_document_takes_the_place_of_another(rt: HostRuntime) {
     let index = indexed(&rt, rt.alloc());
     let after = replaced(&rt, rt.alloc(), &index, 9, b"Be yet").expect(&rt, "a document");
+    assert_word(&rt, rt.alloc(), &after, b"yet", &[(4, 1), (9, 1)]);
+    assert_word(&rt, rt.alloc(), &after, b"to", &[(1, 1)]);
+    assert_top(&rt, rt.alloc(), &index);
+}
+
+/// The index with a document in place of another, on one thread.
+fn replaced_alone<R: Abort>(
+    rt: &R,
+    alloc: Global,
+    index: &Index,
+    doc: u64,
+    text: &[u8],
+) -> Option<Index> {
+    let added = index.replace_doc_alone(alloc, doc, text);
+    match added.expect(rt, "memory") {
+        Added::Known => None,
+        Added::New { index, terms: _ } => Some(index),
+    }
+}
+
+#[test]
+fn a_document_takes_the_place_of_another_on_one_thread(rt: HostRuntime) {
+    let index = indexed(&rt, rt.alloc());
+    let after = replaced_alone(&rt, rt.alloc(), &index, 9, b"Be yet").expect(&rt, "a document");
     assert_word(&rt, rt.alloc(), &after, b"yet", &[(4, 1), (9, 1)]);
     assert_word(&rt, rt.alloc(), &after, b"to", &[(1, 1)]);
     assert_top(&rt, rt.alloc(), &index);

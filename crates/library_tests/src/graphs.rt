@@ -204,15 +204,20 @@ fn a_search_that_stops_goes_no_further(rt: HostRuntime) {
 /// The edges of the graph of `ADDED`, each turned round, in order.
 const TURNED: &[(u64, u64)] = &[(1, 1), (1, 2), (2, 1), (3, 3), (4, 2)];
 
-/// Asserts what edges there are when each is turned round.
-fn assert_reversed<R: Abort>(rt: &R, alloc: Global, graph: &Graph, wanted: &[(u64, u64)]) {
-    let reversed = graph.reversed(alloc).expect(rt, "memory");
-    let list = reversed.list(alloc).expect(rt, "memory");
-    assert_eq!(rt; reversed.edges(), wanted.len() as u64);
+/// Asserts what edges there are, in order.
+fn assert_edges<R: Abort>(rt: &R, alloc: Global, graph: &Graph, wanted: &[(u64, u64)]) {
+    let list = graph.list(alloc).expect(rt, "memory");
+    assert_eq!(rt; graph.edges(), wanted.len() as u64);
     assert_eq!(rt; list.len(), wanted.len());
     for (edge, pair) in list.iter().zip(wanted) {
         assert_eq!(rt; (edge.from, edge.to), *pair);
     }
+}
+
+/// Asserts what edges there are when each is turned round.
+fn assert_reversed<R: Abort>(rt: &R, alloc: Global, graph: &Graph, wanted: &[(u64, u64)]) {
+    let reversed = graph.reversed(alloc).expect(rt, "memory");
+    assert_edges(rt, alloc, &reversed, wanted);
 }
 
 #[test]
@@ -221,6 +226,27 @@ fn each_edge_turned_round(rt: HostRuntime) {
     assert_reversed(&rt, alloc, &graph_of(&rt, alloc, &ADDED, &[]), TURNED);
     assert_reversed(&rt, alloc, &graph_of(&rt, alloc, &[(2, 9)], &[]), &[(9, 2)]);
     assert_reversed(&rt, alloc, &Graph::new(), &[]);
+}
+
+/// The edges of the graph of `ADDED`, in order.
+const ALL: &[(u64, u64)] = &[(1, 1), (1, 2), (2, 1), (2, 4), (3, 3)];
+
+/// Those of them that `CUT` leaves.
+const LEFT: &[(u64, u64)] = &[(1, 1), (1, 2)];
+
+#[test]
+fn edges_are_added_and_cut_on_one_thread(rt: HostRuntime) {
+    let alloc = rt.alloc();
+    let list = edges(&rt, alloc, &ADDED);
+    let all = Graph::new().add_edges_alone(alloc, &list);
+    let all = all.expect(&rt, "memory");
+    assert_edges(&rt, alloc, &all, ALL);
+    let left = all.cut_edges_alone(alloc, &edges(&rt, alloc, &CUT));
+    let left = left.expect(&rt, "memory");
+    assert_edges(&rt, alloc, &left, LEFT);
+    let again = left.add_edges_into_alone(alloc, &list);
+    assert_edges(&rt, alloc, &again.expect(&rt, "memory"), ALL);
+    assert_edges(&rt, alloc, &all, ALL);
 }
 
 /// From 0 to each of 1 to 500, and from each of these to 501.

@@ -16,6 +16,8 @@ mod graphs;
 #[cfg(test)]
 mod intervals;
 #[cfg(test)]
+mod matches;
+#[cfg(test)]
 mod orders;
 #[cfg(test)]
 mod points;

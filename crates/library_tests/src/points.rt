@@ -180,6 +180,57 @@ fn removed_points_leave_the_others(rt: HostRuntime) {
     assert_sums(&rt, rt.alloc(), &points, BEFORE);
 }
 
+/// The points of `FIVE`, by x and then by y.
+const BY_X: &[(u64, u64, u64)] = &[(1, 1, 10), (1, 2, 20), (1, 5, 50), (2, 1, 30), (3, 2, 40)];
+
+#[test]
+fn points_are_made_at_once(rt: HostRuntime) {
+    let list = listed(&rt, rt.alloc(), &FIVE);
+    let points = Points::from_points(rt.alloc(), &list).expect(&rt, "memory");
+    assert_list(&rt, rt.alloc(), &points, (0, 9, 0, 9), BY_X);
+    assert_sums(&rt, rt.alloc(), &points, SUMS);
+}
+
+#[test]
+fn points_are_added_and_removed_on_one_thread(rt: HostRuntime) {
+    let alloc = rt.alloc();
+    let list = listed(&rt, alloc, &FIVE);
+    let points = Points::new().add_alone(alloc, &list).expect(&rt, "memory");
+    assert_list(&rt, alloc, &points, (0, 9, 0, 9), BY_X);
+    let places = [(1, 2), (9, 9)].map(|(first, second)| Pair64 { first, second });
+    let left = points.del_alone(alloc, &places).expect(&rt, "memory");
+    assert_sums(&rt, alloc, &left, AFTER);
+    let again = left.add_alone(alloc, &list).expect(&rt, "memory");
+    assert_list(&rt, alloc, &again, (0, 9, 0, 9), BY_X);
+    assert_sums(&rt, alloc, &points, BEFORE);
+}
+
+#[test]
+fn points_of_a_rectangle_are_counted(rt: HostRuntime) {
+    let points = points_of(&rt, rt.alloc(), &FIVE);
+    for (ends, _, count) in SUMS {
+        let found = points.count(rt.alloc(), rect(*ends));
+        assert_eq!(rt; found.expect(&rt, "memory"), *count);
+    }
+}
+
+/// Places, and the weight of the point there.
+const AT: &[(u64, u64, Option<u64>)] = &[
+    (2, 1, Some(30)),
+    (1, 5, Some(50)),
+    (5, 1, None),
+    (0, 0, None),
+    (u64::MAX, u64::MAX, None),
+];
+
+#[test]
+fn points_are_looked_up(rt: HostRuntime) {
+    let points = points_of(&rt, rt.alloc(), &FIVE);
+    for (x, y, weight) in AT {
+        assert_eq!(rt; points.get(rt.alloc(), *x, *y), *weight);
+    }
+}
+
 #[test]
 fn a_share_of_points_has_their_sum(rt: HostRuntime) {
     let points = points_of(&rt, rt.alloc(), &FIVE);

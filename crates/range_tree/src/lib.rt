@@ -3,6 +3,9 @@
 //! The outer map has the points by (x, y). The augmented value of each of its parts is the map of the same points by (y, x),
 //! with the sum of their weights. Both maps store their blocks as gaps between the first numbers of places.
 //!
+//! `from_points` makes a set of points at once; `add` and `del` set and remove points in batches and fork where a cut allows it, as
+//! `add_alone` and `del_alone` do on one thread. `get` looks a point up; `count`, `sum` and `list` ask for those in a rectangle.
+//!
 //! Tests: `library_tests`. Wrong bodies: here, in `wrong-bodies/`.
 #![tactic(auto)]
 

@@ -2,12 +2,12 @@
 ghost use Rattle.std.specs.Prelude.{◌≡◌, ◌↔◌, ℕ, ◌+◌, ◌≤◌, [], length, map, IfOk, IfSome, IsNone};
 ghost use Rattle.aug_monoid.specs.Exact.{pair64_cmp};
 ghost use Rattle.aug_monoid.specs.Fresh.{IsFresh};
-ghost use Rattle.map_model.specs.Entries.{AllKeys, IsIncreasing};
+ghost use Rattle.map_model.specs.Entries.{AllKeys, IsIncreasing, lookup};
 ghost use Rattle.map_model.specs.Operations.{after, dels, puts};
 ghost use Rattle.range_tree.specs.Costs.{IsHighest, sum_cost};
 ghost use Rattle.range_tree.specs.Listings.{by_rows};
 ghost use Rattle.range_tree.specs.Places.{IsPlace};
-ghost use Rattle.range_tree.specs.Points.{entry_of, inside, point_of, total_of};
+ghost use Rattle.range_tree.specs.Points.{entry_of, inside, point_of, total_of, weight_at};
 
 use crate::listings::RowPoints;
 use crate::places::{greatest_at, least_at};
@@ -69,6 +69,17 @@ impl Points {
         Points { map: Map::empty() }
     }
 
+    /// These points, set in order, so that a later point replaces an earlier one at its place: what `add` makes of no points, at
+    /// once and on one thread. O(k * log k) for k points.
+    #[tactic(auto, using(crate::proofs::Kept::all_after_puts))]
+    pub fn from_points(alloc: Global, points: &[Point]) -> Result<Points, NoMemory>
+        ensures { IfOk result (λ made. made ≡ after pair64_cmp [] (puts (map entry_of points.now))) }
+    {
+        let entries = entries_of(alloc, points)?;
+        let map = PointMap::build_alone(alloc, &entries)?;
+        Ok(Points { map })
+    }
+
     /// How many points there are. O(1).
     pub fn size(&self) -> u64
         ensures value { result ≡ length self.now }
@@ -112,6 +123,16 @@ impl Points {
         Ok(Points { map })
     }
 
+    /// `add` on one thread. O((n + k) * log(k + 1)) for k points added to n.
+    #[tactic(auto, using(crate::proofs::Kept::all_after_puts))]
+    pub fn add_alone(&self, alloc: Global, points: &[Point]) -> Result<Points, NoMemory>
+        ensures { IfOk result (λ more. more ≡ after pair64_cmp self.now (puts (map entry_of points.now))) }
+    {
+        let entries = entries_of(alloc, points)?;
+        let map = self.map.multi_put_alone(alloc, &entries)?;
+        Ok(Points { map })
+    }
+
     /// Without the points at these places (x, y); places that have none change nothing. It is one bulk operation, which forks
     /// where the cut allows it. The work of `add`.
     #[tactic(auto, using(crate::proofs::Kept::all_after_dels))]
@@ -127,6 +148,35 @@ impl Points {
     {
         let map = self.map.multi_del(rt, alloc, gate, cut, places)?;
         Ok(Points { map })
+    }
+
+    /// `del` on one thread. O((n + k) * log(k + 1)) for k places and n points.
+    #[tactic(auto, using(crate::proofs::Kept::all_after_dels))]
+    pub fn del_alone(&self, alloc: Global, places: &[Pair64]) -> Result<Points, NoMemory>
+        ensures { IfOk result (λ fewer. fewer ≡ after pair64_cmp self.now (dels places.now)) }
+    {
+        let map = self.map.multi_del_alone(alloc, places)?;
+        Ok(Points { map })
+    }
+
+    /// The weight of the point at a place; none exactly where there is no point. It takes no memory, and refuses nothing.
+    /// O(log n) for n points.
+    pub fn get(&self, alloc: Global, x: u64, y: u64) -> Option<u64>
+        ensures { result ≡ weight_at self.now x y }
+    {
+        let place = Pair64 {
+            first: x,
+            second: y,
+        };
+        weight_at::<Brand>(alloc, &self.map, &place, Blank::new(1))
+    }
+
+    /// How many points are in a rectangle. O(log^2 n) for n points.
+    pub fn count(&self, alloc: Global, rect: Rect) -> Result<u64, NoMemory>
+        ensures { IfOk result (λ count. count ≡ length (inside rect self.now)) }
+    {
+        let total = self.sum(alloc, rect)?;
+        Ok(total.count)
     }
 
     /// The total of the points in a rectangle, in about the square of the logarithm of the number of points. It is `sum_counted`
@@ -186,6 +236,18 @@ impl Points {
             .map
             .aug_project(alloc, &least_at(rect.x1), &greatest_at(rect.x2), &how)?;
         points_of(alloc, listed.entries())
+    }
+}
+
+// The weight at a place, with a counter that the caller gives up.
+fn weight_at<C: Ledger>(alloc: Global, map: &PointMap, place: &Pair64, blank: Blank) -> Option<u64>
+    requires { IsFresh C.name C.parts blank }
+    ensures { result ≡ lookup pair64_cmp map.now.entries place.now }
+{
+    let mut steps = Steps::<C>::start(blank);
+    match map.get(alloc, place, &mut steps) {
+        Ok(weight) => weight,
+        Err(NoMemory) => unreachable!(),
     }
 }
 

@@ -1,13 +1,9 @@
 //! Least numbers of changes between stations, and an order of them, by a graph.
 
 use anyhow::Result;
-use aug_monoid::Share;
-use fork_join::{Cut, FreeGate};
 use graph_order::{Sorted, topological_order};
 use graph_snap::{Edge, Graph, Reached};
 use std::alloc::Global;
-use std::marker::Sync;
-use std::thread::Threads;
 
 /// Lines between the stations 1 to 6, each way.
 const LINES: &[(u64, u64)] = &[(1, 2), (2, 3), (3, 4), (4, 5), (5, 6), (1, 5)];
@@ -49,17 +45,12 @@ fn order_of(alloc: Global, net: &Graph) -> Result<String> {
 }
 
 /// How many lines one takes from station 1 to station 6, how many when a line is closed, and in which order the stations stand.
-pub(crate) fn page<R: Threads + Sync>(rt: &R, alloc: Global) -> Result<String> {
-    let cut = Cut::new(1, 1024);
-    let edges = both_ways(alloc, LINES)?;
-    let net = Graph::new().add_edges(rt, alloc, &FreeGate, cut, &edges)?;
-    let closed = both_ways(alloc, &[(1, 5)])?;
-    let today = net
-        .share(alloc)?
-        .cut_edges(rt, alloc, &FreeGate, cut, &closed)?;
+pub(crate) fn page(alloc: Global) -> Result<String> {
+    let net = Graph::new().add_edges_alone(alloc, &both_ways(alloc, LINES)?)?;
+    let today = net.cut_edges_alone(alloc, &both_ways(alloc, &[(1, 5)])?)?;
     let usual = distance(&net.bfs_alone(alloc, 1)?, 6);
     let now = distance(&today.bfs_alone(alloc, 1)?, 6);
-    let there = Graph::new().add_edges(rt, alloc, &FreeGate, cut, &one_way(alloc, LINES)?)?;
+    let there = Graph::new().add_edges_alone(alloc, &one_way(alloc, LINES)?)?;
     let text = format!(in alloc;
         "from 1 to 6: {usual:?} lines, and {now:?} while the one from 1 to 5 is closed\nneighbours of 5: {} and {}\none way: {}; both ways: {}\n",
         net.degree(alloc, 5)?,

@@ -20,8 +20,8 @@ fn main(rt: HostRuntime) -> Result<()> {
     println!(rt; "An account\n{}", accounts::page(alloc)?)?;
     println!(rt; "A time series\n{}", series::page(alloc)?)?;
     println!(rt; "Bookings\n{}", bookings::page(alloc)?)?;
-    println!(rt; "Search\n{}", search::page(&rt, alloc)?)?;
-    println!(rt; "A journey\n{}", journey::page(&rt, alloc)?)?;
+    println!(rt; "Search\n{}", search::page(alloc)?)?;
+    println!(rt; "A journey\n{}", journey::page(alloc)?)?;
     println!(rt; "An editor\n{}", rope::page(alloc)?)?;
     println!(rt; "A weighted choice\n{}", choice::page(alloc)?)?;
     Ok(())

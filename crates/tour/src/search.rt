@@ -1,11 +1,8 @@
 //! A search over ten documents, by an inverted index.
 
 use anyhow::{Result, bail};
-use fork_join::{Cut, FreeGate};
 use inverted_index::{Doc, Index, Term};
 use std::alloc::Global;
-use std::marker::Sync;
-use std::thread::Threads;
 
 /// Ten lines of a notebook.
 const NOTES: &[&[u8]] = &[
@@ -43,19 +40,18 @@ fn words_of(alloc: Global, terms: &[Term]) -> Result<String> {
 }
 
 /// Which notes have both of two words, one and not another, and one most often, and which words begin with some letters.
-pub(crate) fn page<R: Threads + Sync>(rt: &R, alloc: Global) -> Result<String> {
-    let cut = Cut::new(1, 1024);
+pub(crate) fn page(alloc: Global) -> Result<String> {
     let mut docs = Vec::new(alloc);
     for (number, text) in (1u64..).zip(NOTES) {
         docs.push(Doc { doc: number, text })?;
     }
-    let added = Index::new().add_docs(rt, alloc, &FreeGate, cut, &docs)?;
+    let added = Index::new().add_docs_alone(alloc, &docs)?;
     let index = added.index;
     let honey = term(alloc, b"honey")?;
     let cake = term(alloc, b"cake")?;
     let best = index.top(alloc, 3, &honey)?;
-    let without = index.without(rt, alloc, &FreeGate, cut, &cake, &honey)?;
-    let both = index.all_of(rt, alloc, &FreeGate, cut, &[honey, cake])?;
+    let without = index.without_alone(alloc, &cake, &honey)?;
+    let both = index.all_of_alone(alloc, &[honey, cake])?;
     let words = words_of(alloc, &index.terms_from(alloc, b"al")?)?;
     let text = format!(in alloc;
         "honey and cake: {both:?}\ncake without honey: {without:?}\nmost honey: {best:?}\nbegin with al: {words}\n"
