@@ -37,12 +37,12 @@ pub struct Block<M: Shape> {
 #[cycle(tree)]
 #[derive(Drop)]
 pub struct Node<M: Shape> {
-    pub left: Tree<M>,
+    pub size: u64,
     pub key: M::Key,
-    pub val: M::Val,
+    pub left: Tree<M>,
     pub right: Tree<M>,
     pub fold: M::Aug,
-    pub size: u64,
+    pub val: M::Val,
     pub height: u32,
 }
 
