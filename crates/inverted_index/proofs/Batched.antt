@@ -12,12 +12,12 @@ use Rattle.map_model.specs.SetOperations.{union}
 use Rattle.map_model.proofs.Lookups.{equal_lookups, first_found, lookup-append, option_or-none}
 use Rattle.map_model.proofs.NatKeys.{nat_exact}
 use Rattle.map_model.proofs.Unions.{IsIncreasing-union, lookup-union, united}
-use Rattle.inverted_index.specs.Added.{outcome, outcomes_of, with_doc, with_docs}
+use Rattle.inverted_index.specs.Added.{Weighing, outcome_by, outcomes_by, with_doc_by, with_docs_by}
 use Rattle.inverted_index.specs.Batches.{IsGathered, all_knowing, first_weights, knowing, mark_of, marked, outcome_of, weighed}
 use Rattle.inverted_index.specs.Documents.{AreFit, IsIndex, documents_of}
 use Rattle.inverted_index.specs.Merging.{Lists, merged, postings_at}
 use Rattle.inverted_index.specs.Queries.{Document, having, if_filled, is_known}
-use Rattle.inverted_index.specs.Terms.{bytes_cmp, terms_of, weights_of}
+use Rattle.inverted_index.specs.Terms.{bytes_cmp}
 use Rattle.inverted_index.specs.declared.doc.Doc.{Doc}
 use Rattle.inverted_index.specs.declared.doc.Outcome.{Outcome}
 use Rattle.inverted_index.specs.declared.doc.Outcome.TheVariants as outcomes
@@ -25,7 +25,6 @@ use Rattle.inverted_index.specs.declared.marking.Marked.{Marked}
 use Rattle.inverted_index.proofs.Batches.{IsIncreasing-first_weights, having-append, having_one, one_if, lookup-first_weights, united_first}
 use Rattle.inverted_index.proofs.Kept.{IsIncreasing-revalued, lookup-revalued}
 use Rattle.inverted_index.proofs.OneMore.{batch, known-documents, one_more, single}
-use Rattle.inverted_index.proofs.Tallies.{tally_rises}
 
 -- ---- lists that have the same weights
 
@@ -109,9 +108,9 @@ found_at-lists_with (d ∷ ds) P t q all =
     ∙ ap (option_or (found_at P t q)) (sym (ap (λ l. lookup nat_cmp l q) (having-append (d ∷ []) ds t) ∙ lookup-append nat_cmp (having (d ∷ []) t) (having ds t) q))
 
 -- one document, new or known
-module _ (d : Doc) (D : List (ℕ × ℕ)) (P : Lists) (index : IsIndex D P) where
+module _ (by : Weighing) (rising : (text : List ℕ) → IsIncreasing bytes_cmp (by text)) (d : Doc) (D : List (ℕ × ℕ)) (P : Lists) (index : IsIndex D P) where
   abbrev W : List (List ℕ × ℕ)
-  W = weights_of d.text.now
+  W = by d.text.now
 
   -- where it is known or isn't
   abbrev IsStep : Bool → Type 0
@@ -122,13 +121,13 @@ module _ (d : Doc) (D : List (ℕ × ℕ)) (P : Lists) (index : IsIndex D P) whe
   step_at : (o : Option ℕ) → lookup nat_cmp D d.doc ≡ o → AreFit (cond (not (is_some o)) W []) → IsStep (is_some o)
   step_at (Some w) is fit = (index, refl, refl)
   step_at None is fit =
-      let all = one_more d.doc D P W (set nat_cmp D d.doc 0) (union bytes_cmp merged P (batch d.doc W)) index is (tally_rises (terms_of d.text.now)) fit refl refl in
+      let all = one_more d.doc D P W (set nat_cmp D d.doc 0) (union bytes_cmp merged P (batch d.doc W)) index is (rising d.text.now) fit refl refl in
       (all.0, all.1, refl)
 
   abbrev after_one : Lists
-  after_one = union bytes_cmp merged P (batch d.doc (weighed (mark_of D d)).1)
+  after_one = union bytes_cmp merged P (batch d.doc (weighed by (mark_of D d)).1)
 
-  step : AreFit (weighed (mark_of D d)).1 → IsIndex (knowing D d.doc) after_one × (documents_of (knowing D d.doc) after_one ≡ with_doc (documents_of D P) d.doc d.text.now) × (outcome_of (mark_of D d) ≡ outcome (documents_of D P) d.doc d.text.now)
+  step : AreFit (weighed by (mark_of D d)).1 → IsIndex (knowing D d.doc) after_one × (documents_of (knowing D d.doc) after_one ≡ with_doc_by by (documents_of D P) d.doc d.text.now) × (outcome_of by (mark_of D d) ≡ outcome_by by (documents_of D P) d.doc d.text.now)
   step fit =
       let all = step_at (lookup nat_cmp D d.doc) refl fit in
       let known : is_known (documents_of D P) d.doc ≡ is_some (lookup nat_cmp D d.doc) = known-documents D P d.doc in (
@@ -138,28 +137,28 @@ module _ (d : Doc) (D : List (ℕ × ℕ)) (P : Lists) (index : IsIndex D P) whe
       )
 
 -- documents one after another
-steps : (docs : List Doc) (D : List (ℕ × ℕ)) (P : Lists) → IsIndex D P → AllByRecursion (λ m. AreFit (weighed m).1) (marked D docs)
-    → IsIndex (all_knowing D docs) (lists_with P (map weighed (marked D docs)))
-    × (documents_of (all_knowing D docs) (lists_with P (map weighed (marked D docs))) ≡ with_docs (documents_of D P) docs)
-    × (map outcome_of (marked D docs) ≡ outcomes_of (documents_of D P) docs)
-steps [] D P index fit = (index, refl, refl)
-steps (d ∷ docs) D P index fit =
-    let here = step d D P index fit.0 in
-    let rest = steps docs (knowing D d.doc) (after_one d D P index) here.0 fit.1 in (
+steps : (by : Weighing) → ((text : List ℕ) → IsIncreasing bytes_cmp (by text)) → (docs : List Doc) (D : List (ℕ × ℕ)) (P : Lists) → IsIndex D P → AllByRecursion (λ m. AreFit (weighed by m).1) (marked D docs)
+    → IsIndex (all_knowing D docs) (lists_with P (map (weighed by) (marked D docs)))
+    × (documents_of (all_knowing D docs) (lists_with P (map (weighed by) (marked D docs))) ≡ with_docs_by by (documents_of D P) docs)
+    × (map (outcome_of by) (marked D docs) ≡ outcomes_by by (documents_of D P) docs)
+steps by rising [] D P index fit = (index, refl, refl)
+steps by rising (d ∷ docs) D P index fit =
+    let here = step by rising d D P index fit.0 in
+    let rest = steps by rising docs (knowing D d.doc) (after_one by rising d D P index) here.0 fit.1 in (
       rest.0,
-      rest.1 ∙ ap (λ ds. with_docs ds docs) here.1,
-      ap₂ (λ x xs. x ∷ xs) here.2 (rest.2 ∙ ap (λ ds. outcomes_of ds docs) here.1),
+      rest.1 ∙ ap (λ ds. with_docs_by by ds docs) here.1,
+      ap₂ (λ x xs. x ∷ xs) here.2 (rest.2 ∙ ap (λ ds. outcomes_by by ds docs) here.1),
     )
 
 -- ---- all at once
 
-rising_weights : (b : Bool) (text : List ℕ) → IsIncreasing bytes_cmp (cond b (weights_of text) [])
-rising_weights true text = tally_rises (terms_of text)
-rising_weights false text = tt
+rising_weights : (by : Weighing) → ((text : List ℕ) → IsIncreasing bytes_cmp (by text)) → (b : Bool) (text : List ℕ) → IsIncreasing bytes_cmp (cond b (by text) [])
+rising_weights by rising true text = rising text
+rising_weights by rising false text = tt
 
-all_rising : (ms : List Marked) → AllByRecursion (λ d. IsIncreasing bytes_cmp d.1) (map weighed ms)
-all_rising [] = tt
-all_rising (m ∷ ms) = (rising_weights m.is_new m.text.now, all_rising ms)
+all_rising : (by : Weighing) → ((text : List ℕ) → IsIncreasing bytes_cmp (by text)) → (ms : List Marked) → AllByRecursion (λ d. IsIncreasing bytes_cmp d.1) (map (weighed by) ms)
+all_rising by rising [] = tt
+all_rising by rising (m ∷ ms) = (rising_weights by rising m.is_new m.text.now, all_rising by rising ms)
 
 filled_first : (l : List (ℕ × ℕ)) → IsFilledSome (option_map first_weights (if_filled l))
 filled_first [] m is = absurd (none-some m is)
@@ -169,36 +168,36 @@ at_first : (l : List (ℕ × ℕ)) (q : ℕ) → lookup nat_cmp (unwrap_or (opti
 at_first [] q = refl
 at_first (e ∷ l) q = lookup-first_weights (e ∷ l) q
 
-module _ (ms : List Marked) (D known : List (ℕ × ℕ)) (P B : Lists) (outs : List Outcome) (index : IsIndex D P) (gathered : IsGathered ms B outs) (after : IsIndex known (lists_with P (map weighed ms))) where
+module _ (by : Weighing) (rising : (text : List ℕ) → IsIncreasing bytes_cmp (by text)) (ms : List Marked) (D known : List (ℕ × ℕ)) (P B : Lists) (outs : List Outcome) (index : IsIndex D P) (gathered : IsGathered by ms B outs) (after : IsIndex known (lists_with P (map (weighed by) ms))) where
   filled_batch : (t : List ℕ) → IsFilledSome (lookup bytes_cmp B t)
-  filled_batch t = subst IsFilledSome (sym (gathered.found t)) (filled_first (having (map weighed ms) t))
+  filled_batch t = subst IsFilledSome (sym (gathered.found t)) (filled_first (having (map (weighed by) ms) t))
 
   filled_index : (E : List (ℕ × ℕ)) (Q : Lists) → IsIndex E Q → (t : List ℕ) → IsFilledSome (lookup bytes_cmp Q t)
   filled_index E Q i t m is = ((i.are_postings t m is).rises, (i.are_postings t m is).filled)
 
-  found_at-gathered : (t : List ℕ) (q : ℕ) → found_at B t q ≡ lookup nat_cmp (having (map weighed ms) t) q
-  found_at-gathered t q = ap (λ o. lookup nat_cmp (unwrap_or o []) q) (gathered.found t) ∙ at_first (having (map weighed ms) t) q
+  found_at-gathered : (t : List ℕ) (q : ℕ) → found_at B t q ≡ lookup nat_cmp (having (map (weighed by) ms) t) q
+  found_at-gathered t q = ap (λ o. lookup nat_cmp (unwrap_or o []) q) (gathered.found t) ∙ at_first (having (map (weighed by) ms) t) q
 
-  at_once : union bytes_cmp merged P B ≡ lists_with P (map weighed ms)
-  at_once = same_lists (union bytes_cmp merged P B) (lists_with P (map weighed ms))
+  at_once : union bytes_cmp merged P B ≡ lists_with P (map (weighed by) ms)
+  at_once = same_lists (union bytes_cmp merged P B) (lists_with P (map (weighed by) ms))
       (IsIncreasing-union nat_list_cmp_total merged P B index.terms_rise)
       after.terms_rise
       (λ t. subst IsFilledSome (sym (lookup-union nat_list_cmp_total exact_bytes merged P B t gathered.rises)) (filled_united (lookup bytes_cmp P t) (lookup bytes_cmp B t) (filled_index D P index t) (filled_batch t)))
-      (filled_index known (lists_with P (map weighed ms)) after)
+      (filled_index known (lists_with P (map (weighed by) ms)) after)
       (λ t q.
       found_at-union P B t q gathered.rises (λ m is. (filled_batch t m is).0)
       ∙ ap (option_or (found_at P t q)) (found_at-gathered t q)
-      ∙ sym (found_at-lists_with (map weighed ms) P t q (all_rising ms)))
+      ∙ sym (found_at-lists_with (map (weighed by) ms) P t q (all_rising by rising ms)))
 
 -- what adding a batch answers
-pub batched : (docs : List Doc) (ms : List Marked) (D known : List (ℕ × ℕ)) (P B lists : Lists) (ds : List Document) (outs : List Outcome) → IsIndex D P → documents_of D P ≡ ds → known ≡ all_knowing D docs → ms ≡ marked D docs → IsGathered ms B outs → lists ≡ union bytes_cmp merged P B
-    → IsIndex known lists × (documents_of known lists ≡ with_docs ds docs) × (outs ≡ outcomes_of ds docs)
-batched docs ms D known P B lists ds outs index view knows marks gathered united =
-    let G : List Marked → Type 0 = λ m. IsGathered m B outs in
-    let whole : IsGathered (marked D docs) B outs = subst G marks gathered in
-    let one_by_one = steps docs D P index whole.fit in
-    let same : lists ≡ lists_with P (map weighed (marked D docs)) = united ∙ at_once (marked D docs) D (all_knowing D docs) P B outs index whole one_by_one.0 in (
+pub batched : (by : Weighing) → ((text : List ℕ) → IsIncreasing bytes_cmp (by text)) → (docs : List Doc) (ms : List Marked) (D known : List (ℕ × ℕ)) (P B lists : Lists) (ds : List Document) (outs : List Outcome) → IsIndex D P → documents_of D P ≡ ds → known ≡ all_knowing D docs → ms ≡ marked D docs → IsGathered by ms B outs → lists ≡ union bytes_cmp merged P B
+    → IsIndex known lists × (documents_of known lists ≡ with_docs_by by ds docs) × (outs ≡ outcomes_by by ds docs)
+batched by rising docs ms D known P B lists ds outs index view knows marks gathered united =
+    let G : List Marked → Type 0 = λ m. IsGathered by m B outs in
+    let whole : IsGathered by (marked D docs) B outs = subst G marks gathered in
+    let one_by_one = steps by rising docs D P index whole.fit in
+    let same : lists ≡ lists_with P (map (weighed by) (marked D docs)) = united ∙ at_once by rising (marked D docs) D (all_knowing D docs) P B outs index whole one_by_one.0 in (
       rw (knows, same) one_by_one.0,
-      ap₂ documents_of knows same ∙ one_by_one.1 ∙ ap (λ x. with_docs x docs) view,
-      whole.told ∙ one_by_one.2 ∙ ap (λ x. outcomes_of x docs) view,
+      ap₂ documents_of knows same ∙ one_by_one.1 ∙ ap (λ x. with_docs_by by x docs) view,
+      whole.told ∙ one_by_one.2 ∙ ap (λ x. outcomes_by by x docs) view,
     )

@@ -20,6 +20,7 @@ use Rattle.map_model.proofs.NatKeys.{nat_exact}
 use Rattle.map_model.proofs.Operations.{IsIncreasing-build, build-increasing, lookup-after_puts}
 use Rattle.map_model.proofs.Sorted.{IsIncreasing-from_ordered, lookup-get}
 use Rattle.map_model.proofs.Unions.{IsIncreasing-union, lookup-union, united}
+use Rattle.inverted_index.specs.Added.{Weighing}
 use Rattle.inverted_index.specs.Batches.{IsGathered, first_weights, grown, outcome_of, weighed}
 use Rattle.inverted_index.specs.Documents.{AreFit}
 use Rattle.inverted_index.specs.Merging.{Lists, merged}
@@ -97,15 +98,15 @@ pushed_more weights i doc e t new old mid rises low is so_far pushes =
     equal Greater h = cc
 
 -- a table of the documents so far, and one more
-pub table_more : (docs : List Marked) (i : ℕ) (m : Marked) (t : List ℕ) (new old : Option (List (ℕ × ℕ))) → i < length docs → m ≡ get_or docs i m → old ≡ inverted (map weighed (take i docs)) t → new ≡ grown m.doc old (lookup bytes_cmp (weighed m).1 t) → new ≡ inverted (map weighed (take (i + 1) docs)) t
-table_more docs i m t new old low is so_far grows =
+pub table_more : (by : Weighing) (docs : List Marked) (i : ℕ) (m : Marked) (t : List ℕ) (new old : Option (List (ℕ × ℕ))) → i < length docs → m ≡ get_or docs i m → old ≡ inverted (map (weighed by) (take i docs)) t → new ≡ grown m.doc old (lookup bytes_cmp (weighed by m).1 t) → new ≡ inverted (map (weighed by) (take (i + 1) docs)) t
+table_more by docs i m t new old low is so_far grows =
     grows
-    ∙ ap (λ o. grown m.doc o (lookup bytes_cmp (weighed m).1 t)) so_far
-    ∙ sym (ap (λ l. inverted (map weighed l) t) (take_more docs i m low ∙ ap (λ x. take i docs ++ x ∷ []) (sym is)) ∙ ap (λ l. inverted l t) (map-append weighed (take i docs) (m ∷ [])) ∙ inverted_more (map weighed (take i docs)) (weighed m) t)
+    ∙ ap (λ o. grown m.doc o (lookup bytes_cmp (weighed by m).1 t)) so_far
+    ∙ sym (ap (λ l. inverted (map (weighed by) l) t) (take_more docs i m low ∙ ap (λ x. take i docs ++ x ∷ []) (sym is)) ∙ ap (λ l. inverted l t) (map-append (weighed by) (take i docs) (m ∷ [])) ∙ inverted_more (map (weighed by) (take i docs)) (weighed by m) t)
 
 -- weights that fit, and those of one more
-abbrev pub IsFit : Marked → Type 0
-IsFit m = AreFit (weighed m).1
+abbrev pub IsFit : Weighing → Marked → Type 0
+IsFit by m = AreFit (weighed by m).1
 
 all-join : {X : Type 0} (F : X → Type 0) (whole l r : List X) → whole ≡ l ++ r → AllByRecursion F l → AllByRecursion F r → AllByRecursion F whole
 all-join {X} F whole l r is a b = let P : List X → Type 0 = λ x. AllByRecursion F x in subst P (sym is) (joined l a)
@@ -114,18 +115,18 @@ all-join {X} F whole l r is a b = let P : List X → Type 0 = λ x. AllByRecursi
     joined [] a = b
     joined (x ∷ front) a = (a.0, joined front a.1)
 
-pub fit_more : (docs : List Marked) (i : ℕ) (m : Marked) → i < length docs → m ≡ get_or docs i m → AllByRecursion IsFit (take i docs) → IsFit m → AllByRecursion IsFit (take (i + 1) docs)
-fit_more docs i m low is so_far here = all-join IsFit (take (i + 1) docs) (take i docs) (m ∷ []) (take_more docs i m low ∙ ap (λ x. take i docs ++ x ∷ []) (sym is)) so_far (here, tt)
+pub fit_more : (by : Weighing) (docs : List Marked) (i : ℕ) (m : Marked) → i < length docs → m ≡ get_or docs i m → AllByRecursion (IsFit by) (take i docs) → IsFit by m → AllByRecursion (IsFit by) (take (i + 1) docs)
+fit_more by docs i m low is so_far here = all-join (IsFit by) (take (i + 1) docs) (take i docs) (m ∷ []) (take_more docs i m low ∙ ap (λ x. take i docs ++ x ∷ []) (sym is)) so_far (here, tt)
 
 -- at the end
-pub gathered_whole : (docs : List Marked) (n : ℕ) (lists : Lists) (table : List ℕ → Option (List (ℕ × ℕ))) (outcomes : List Outcome) → length docs ≤ n → IsIncreasing bytes_cmp lists → ((t : List ℕ) → lookup bytes_cmp lists t ≡ option_map first_weights (table t)) → ((t : List ℕ) → table t ≡ inverted (map weighed (take n docs)) t) → outcomes ≡ map outcome_of (take n docs) → AllByRecursion IsFit (take n docs) → IsGathered docs lists outcomes
-gathered_whole docs n lists table outcomes high rises found same told fit =
+pub gathered_whole : (by : Weighing) (docs : List Marked) (n : ℕ) (lists : Lists) (table : List ℕ → Option (List (ℕ × ℕ))) (outcomes : List Outcome) → length docs ≤ n → IsIncreasing bytes_cmp lists → ((t : List ℕ) → lookup bytes_cmp lists t ≡ option_map first_weights (table t)) → ((t : List ℕ) → table t ≡ inverted (map (weighed by) (take n docs)) t) → outcomes ≡ map (outcome_of by) (take n docs) → AllByRecursion (IsFit by) (take n docs) → IsGathered by docs lists outcomes
+gathered_whole by docs n lists table outcomes high rises found same told fit =
     let whole : take n docs ≡ docs = take_all n docs high in
-    let P : List Marked → Type 0 = λ x. AllByRecursion IsFit x in
+    let P : List Marked → Type 0 = λ x. AllByRecursion (IsFit by) x in
     record {
       rises = rises;
-      found = λ t. found t ∙ ap (option_map first_weights) (same t ∙ ap (λ l. inverted (map weighed l) t) whole);
-      told = told ∙ ap (map outcome_of) whole;
+      found = λ t. found t ∙ ap (option_map first_weights) (same t ∙ ap (λ l. inverted (map (weighed by) l) t) whole);
+      told = told ∙ ap (map (outcome_of by)) whole;
       fit = subst P whole fit;
     }
 
@@ -163,18 +164,18 @@ filled_both (x ∷ a) (y ∷ b) = ap Some (first_weights-append (x ∷ a) (y ∷
 
 -- ---- two parts
 
-pub gathered_both : (docs front back : List Marked) (left right lists : Lists) (near far outcomes : List Outcome) → docs ≡ front ++ back → IsGathered front left near → IsGathered back right far → lists ≡ union bytes_cmp merged left right → outcomes ≡ near ++ far → IsGathered docs lists outcomes
-gathered_both docs front back left right lists near far outcomes is l r both told = record {
+pub gathered_both : (by : Weighing) (docs front back : List Marked) (left right lists : Lists) (near far outcomes : List Outcome) → docs ≡ front ++ back → IsGathered by front left near → IsGathered by back right far → lists ≡ union bytes_cmp merged left right → outcomes ≡ near ++ far → IsGathered by docs lists outcomes
+gathered_both by docs front back left right lists near far outcomes is l r both told = record {
   rises = let P : Lists → Type 0 = λ m. IsIncreasing bytes_cmp m in subst P (sym both) (IsIncreasing-union nat_list_cmp_total merged left right l.rises);
   found = λ t.
       ap (λ m. lookup bytes_cmp m t) both
       ∙ lookup-union nat_list_cmp_total exact_bytes merged left right t r.rises
       ∙ ap₂ (united merged) (l.found t) (r.found t)
-      ∙ filled_both (having (map weighed front) t) (having (map weighed back) t)
-      ∙ ap (λ x. option_map first_weights (if_filled x)) (sym (having-append (map weighed front) (map weighed back) t))
-      ∙ ap (λ x. option_map first_weights (inverted x t)) (sym (map-append weighed front back) ∙ ap (map weighed) (sym is));
-  fit = all-join IsFit docs front back is l.fit r.fit;
-  told = told ∙ ap₂ (λ x y. x ++ y) l.told r.told ∙ sym (map-append outcome_of front back) ∙ ap (map outcome_of) (sym is);
+      ∙ filled_both (having (map (weighed by) front) t) (having (map (weighed by) back) t)
+      ∙ ap (λ x. option_map first_weights (if_filled x)) (sym (having-append (map (weighed by) front) (map (weighed by) back) t))
+      ∙ ap (λ x. option_map first_weights (inverted x t)) (sym (map-append (weighed by) front back) ∙ ap (map (weighed by)) (sym is));
+  fit = all-join (IsFit by) docs front back is l.fit r.fit;
+  told = told ∙ ap₂ (λ x y. x ++ y) l.told r.told ∙ sym (map-append (outcome_of by) front back) ∙ ap (map (outcome_of by)) (sym is);
 }
 
 -- ---- the rows of a table

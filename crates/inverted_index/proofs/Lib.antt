@@ -6,6 +6,7 @@ pub mod Ranks
 pub mod Ranked
 pub mod ByWeight
 pub mod Tallies
+pub mod Weighed
 pub mod Texts
 pub mod TopCosts
 pub mod Found

@@ -16,10 +16,10 @@ use Rattle.map_model.proofs.Lookups.{equal_lookups, lookup-set}
 use Rattle.map_model.proofs.Splits.{IsIncreasing-set}
 use Rattle.map_model.proofs.Unions.{united, lookup-union, IsIncreasing-union}
 use Rattle.map_model.proofs.NatKeys.{nat_exact}
-use Rattle.inverted_index.specs.Added.{outcome, with_doc}
+use Rattle.inverted_index.specs.Added.{Weighing, outcome_by, with_doc_by}
 use Rattle.inverted_index.specs.declared.doc.Outcome.TheVariants as outcomes
 use Rattle.std.specs.Prelude.{if◌then◌else◌}
-use Rattle.inverted_index.specs.Terms.{bytes_cmp, weights_of}
+use Rattle.inverted_index.specs.Terms.{bytes_cmp}
 use Rattle.inverted_index.specs.Documents.{AreFit, IsIndex, IsPostings, documents_of, terms_in}
 use Rattle.inverted_index.specs.Queries.{Document, is_known}
 use Rattle.inverted_index.specs.Merging.{Lists, merged, postings_at}
@@ -178,14 +178,14 @@ pub one_more : (doc : ℕ) (D : List (ℕ × ℕ)) (P : Lists) (W : List (List �
 one_more doc D P W known lists index new rises fit knows has = rw (knows, has) (index_after doc D P W index new rises fit, documents_after doc D P W index new rises fit)
 
 -- what is told of one document
-pub known_told : (ds : List Document) (doc : ℕ) (text : List ℕ) → outcomes.Known ≡ outcome ds doc text → is_known ds doc ≡ true
-known_told ds doc text = elim (is_known ds doc) as (λ b. outcomes.Known ≡ (if b then outcomes.Known else outcomes.New (length (weights_of text))) → b ≡ true) [
+pub known_told : (by : Weighing) (ds : List Document) (doc : ℕ) (text : List ℕ) → outcomes.Known ≡ outcome_by by ds doc text → is_known ds doc ≡ true
+known_told by ds doc text = elim (is_known ds doc) as (λ b. outcomes.Known ≡ (if b then outcomes.Known else outcomes.New (length (by text))) → b ≡ true) [
   | true ↦ λ _. refl
-  | false ↦ λ bad. absurd (let no : outcomes.Known ≡ outcomes.New (length (weights_of text)) = bad in cc)
+  | false ↦ λ bad. absurd (let no : outcomes.Known ≡ outcomes.New (length (by text)) = bad in cc)
 ]
 
-pub new_told : (ds : List Document) (doc : ℕ) (text : List ℕ) (terms : ℕ) → outcomes.New terms ≡ outcome ds doc text → (is_known ds doc ≡ false) × (with_doc ds doc text ≡ set nat_cmp ds doc (weights_of text)) × (terms ≡ length (weights_of text))
-new_told ds doc text terms = elim (is_known ds doc) as (λ b. outcomes.New terms ≡ (if b then outcomes.Known else outcomes.New (length (weights_of text))) → (b ≡ false) × ((if b then ds else set nat_cmp ds doc (weights_of text)) ≡ set nat_cmp ds doc (weights_of text)) × (terms ≡ length (weights_of text))) [
+pub new_told : (by : Weighing) (ds : List Document) (doc : ℕ) (text : List ℕ) (terms : ℕ) → outcomes.New terms ≡ outcome_by by ds doc text → (is_known ds doc ≡ false) × (with_doc_by by ds doc text ≡ set nat_cmp ds doc (by text)) × (terms ≡ length (by text))
+new_told by ds doc text terms = elim (is_known ds doc) as (λ b. outcomes.New terms ≡ (if b then outcomes.Known else outcomes.New (length (by text))) → (b ≡ false) × ((if b then ds else set nat_cmp ds doc (by text)) ≡ set nat_cmp ds doc (by text)) × (terms ≡ length (by text))) [
   | true ↦ λ bad. absurd (let no : outcomes.New terms ≡ outcomes.Known = bad in cc)
-  | false ↦ λ is. let same : outcomes.New terms ≡ outcomes.New (length (weights_of text)) = is in (refl, refl, cc)
+  | false ↦ λ is. let same : outcomes.New terms ≡ outcomes.New (length (by text)) = is in (refl, refl, cc)
 ]

@@ -12,7 +12,7 @@ use Rattle.map_model.specs.Entries.{IsIncreasing, lookup, set, drop_key}
 use Rattle.map_model.proofs.Keys.{by_order, greater, lesser, IsIncreasing-back, IsIncreasing-filter}
 use Rattle.map_model.proofs.Lookups.{equal_lookups, lookup-behind, lookup-drop_key, lookup-set}
 use Rattle.map_model.proofs.NatKeys.{is_eq-nat_cmp, nat_exact}
-use Rattle.inverted_index.specs.Added.{IsAdded, IsNew}
+use Rattle.inverted_index.specs.Added.{IsAddedBy, IsNew, Weighing}
 use Rattle.inverted_index.specs.declared.adding.Added.{Added}
 use Rattle.inverted_index.specs.declared.adding.Added.TheVariants as added
 use Rattle.inverted_index.specs.Terms.{bytes_cmp}
@@ -105,9 +105,9 @@ absent_without (d ∷ ds) doc =
     ] refl
 
 -- so it is new where it is added then
-pub added_new : (ds : List Document) (doc : ℕ) (text : List ℕ) (a : Added) → IsAdded (without_doc ds doc) doc text a → IsNew a
-added_new ds doc text added.Known known = let bad : false ≡ true = sym (absent_without ds doc) ∙ known in cc
-added_new ds doc text (added.New index terms) known = tt
+pub added_new : (by : Weighing) (ds : List Document) (doc : ℕ) (text : List ℕ) (a : Added) → IsAddedBy by (without_doc ds doc) doc text a → IsNew a
+added_new by ds doc text added.Known known = let bad : false ≡ true = sym (absent_without ds doc) ∙ known in cc
+added_new by ds doc text (added.New index terms) known = tt
 
 -- ---- the maps
 

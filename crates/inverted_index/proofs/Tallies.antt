@@ -1,5 +1,5 @@
 -- How often terms are among some.
-use Rattle.std.proofs.Common.{◌≡◌, ℕ, zero, suc, ◌+◌, ◌-◌, ◌^◌, ◌<◌, ◌≤◌, true, false, cond, List, [], ◌∷◌, ◌++◌, Option, Some, None, length, refl, sym, ap, ap₂, ◌∙◌, map, subst, arith}
+use Rattle.std.proofs.Common.{◌≡◌, ℕ, zero, suc, ◌+◌, ◌-◌, ◌<◌, ◌≤◌, true, false, cond, List, [], ◌∷◌, ◌++◌, Option, Some, None, length, refl, sym, ap, ap₂, ◌∙◌, map, subst, arith}
 use Rattle.std.specs.declared.cmp.Ordering.{Ordering}
 use Rattle.std.specs.declared.cmp.Ordering.TheVariants.{Less, Equal, Greater}
 use Rattle.std.specs.Option.{option_or}
@@ -7,7 +7,6 @@ use Rattle.std.specs.Ordering.{is_eq}
 use Rattle.std.proofs.lemmas.Cmp.{nat_list_cmp_total}
 use Rattle.std.proofs.lemmas.List.Sums.{sum_by-append, sum_by-cons, count_by-le-length}
 use Rattle.std.proofs.lemmas.Map.Lookups.{exact_bytes}
-use Rattle.std.proofs.lemmas.Option.{same_Some}
 use Rattle.map_model.specs.Entries.{IsIncreasing, lookup}
 use Rattle.map_model.specs.Operations.{last_at}
 use Rattle.map_model.specs.SetOperations.{union}
@@ -15,7 +14,6 @@ use Rattle.map_model.proofs.Lookups.{option_or-none}
 use Rattle.map_model.proofs.Operations.{IsIncreasing-build, build-is, last_at-cons, lookup-after_puts}
 use Rattle.map_model.proofs.Unions.{IsIncreasing-union, united, lookup-union}
 use Rattle.inverted_index.specs.Terms.{bytes_cmp, tally, times}
-use Rattle.inverted_index.specs.Documents.{AreFit}
 use Rattle.inverted_index.specs.Merging.{sat}
 use Rattle.inverted_index.proofs.Gathering.{limit}
 
@@ -30,10 +28,6 @@ counted-some (suc n) h = refl
 
 counted-none : (n : ℕ) → n ≡ 0 → counted n ≡ None
 counted-none n h = ap counted h
-
-counted-value : (n w : ℕ) → counted n ≡ Some w → n ≡ w
-counted-value zero w h = absurd (cc)
-counted-value (suc n) w h = same_Some (suc n) w h
 
 counted-join : (m n : ℕ) → m + n ≤ limit → united sat (counted m) (counted n) ≡ counted (m + n)
 counted-join zero zero low = sym (counted-none (0 + 0) (omega arith))
@@ -113,14 +107,5 @@ tally_one t = tallied ((t, 1) ∷ []) (t ∷ []) (tt, tt) (counts_one t)
 pub tally_both : (l r : List (List ℕ)) → length (l ++ r) ≤ limit → union bytes_cmp sat (tally l) (tally r) ≡ tally (l ++ r)
 tally_both l r low = tallied (union bytes_cmp sat (tally l) (tally r)) (l ++ r) (IsIncreasing-union nat_list_cmp_total sat (tally l) (tally r) (tally_rises l)) (counts_both (tally l) (tally r) l r low (tally_rises r) (tally_counts l) (tally_counts r))
 
-pub tally_fits : (terms : List (List ℕ)) → length terms ≤ limit → (t : List ℕ) (w : ℕ) → lookup bytes_cmp (tally terms) t ≡ Some w → w ≤ limit
-tally_fits terms low t w is =
-    let same : times terms t ≡ w = counted-value (times terms t) w (sym (tally_counts terms t) ∙ is) in
-    let fits : times terms t ≤ length terms = count_by-le-length (λ s. is_eq (bytes_cmp s t)) terms in
-    omega arith
-
 pub rises_of : (W : List (List ℕ × ℕ)) (terms : List (List ℕ)) → W ≡ tally terms → IsIncreasing bytes_cmp W
 rises_of W terms is = let P : List (List ℕ × ℕ) → Type 0 = λ w. IsIncreasing bytes_cmp w in subst P (sym is) (tally_rises terms)
-
-pub fits_of : (W : List (List ℕ × ℕ)) (terms : List (List ℕ)) → W ≡ tally terms → length terms ≤ 2 ^ 64 - 1 → AreFit W
-fits_of W terms is low = let P : List (List ℕ × ℕ) → Type 0 = λ w. AreFit w in subst P (sym is) (tally_fits terms low)

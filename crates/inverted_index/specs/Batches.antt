@@ -6,10 +6,11 @@ use Rattle.std.specs.Option.{option_map}
 use Rattle.std.specs.Ordering.{nat_cmp}
 use Rattle.map_model.specs.Entries.{IsIncreasing, lookup, set}
 use Rattle.map_model.specs.Operations.{build}
+use Rattle.inverted_index.specs.Added.{Weighing}
 use Rattle.inverted_index.specs.Documents.{AreFit}
 use Rattle.inverted_index.specs.Merging.{Lists}
 use Rattle.inverted_index.specs.Queries.{Document, inverted}
-use Rattle.inverted_index.specs.Terms.{bytes_cmp, weights_of}
+use Rattle.inverted_index.specs.Terms.{bytes_cmp}
 use Rattle.inverted_index.specs.declared.batch.Gathered.{Gathered}
 use Rattle.inverted_index.specs.declared.doc.Doc.{Doc}
 use Rattle.inverted_index.specs.declared.doc.Outcome.{Outcome}
@@ -32,12 +33,12 @@ marked known [] = []
 marked known (d ∷ docs) = mark_of known d ∷ marked (knowing known d.doc) docs
 
 -- a marked document with the terms that it adds: none where it is not new
-abbrev pub weighed : Marked → Document
-weighed m = (m.doc, cond m.is_new (weights_of m.text.now) [])
+abbrev pub weighed : Weighing → Marked → Document
+weighed by m = (m.doc, cond m.is_new (by m.text.now) [])
 
 -- what becomes of it
-abbrev pub outcome_of : Marked → Outcome
-outcome_of m = cond m.is_new (outcome.New (length (weights_of m.text.now))) outcome.Known
+abbrev pub outcome_of : Weighing → Marked → Outcome
+outcome_of by m = cond m.is_new (outcome.New (length (by m.text.now))) outcome.Known
 
 -- documents with weights of a term, and one more, if it has the term
 abbrev pub grown : ℕ → Option (List (ℕ × ℕ)) → Option ℕ → Option (List (ℕ × ℕ))
@@ -49,19 +50,19 @@ abbrev pub first_weights : List (ℕ × ℕ) → List (ℕ × ℕ)
 first_weights pairs = build nat_cmp (reverse pairs)
 
 -- the postings of marked documents, and what becomes of each
-pub record IsGathered (docs : List Marked) (lists : Lists) (outcomes : List Outcome) : Type 0 where
+pub record IsGathered (by : Weighing) (docs : List Marked) (lists : Lists) (outcomes : List Outcome) : Type 0 where
   pub rises : IsIncreasing bytes_cmp lists
-  pub found : (t : List ℕ) → lookup bytes_cmp lists t ≡ option_map first_weights (inverted (map weighed docs) t)
-  pub told : outcomes ≡ map outcome_of docs
-  pub fit : AllByRecursion (λ m. AreFit (weighed m).1) docs
+  pub found : (t : List ℕ) → lookup bytes_cmp lists t ≡ option_map first_weights (inverted (map (weighed by) docs) t)
+  pub told : outcomes ≡ map (outcome_of by) docs
+  pub fit : AllByRecursion (λ m. AreFit (weighed by m).1) docs
 
 -- ---- a part of the marked documents, as the program has it
 
 abbrev pub Part : Type 0
 Part = Bor (List Marked)
 
-abbrev pub IsGatheredOf : Part → Gathered → Type 0
-IsGatheredOf part out = IsGathered part.now out.lists.entries out.outcomes.items
+abbrev pub IsGatheredOf : Weighing → Part → Gathered → Type 0
+IsGatheredOf by part out = IsGathered by part.now out.lists.entries out.outcomes.items
 
 abbrev pub AreParts : Part → Part → Unit {0} → Part → Type 0
 AreParts whole front middle back = whole.now ≡ front.now ++ back.now

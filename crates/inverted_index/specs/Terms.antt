@@ -47,3 +47,11 @@ tally terms = build bytes_cmp (map (λ t. (t, times terms t)) terms)
 -- the terms of a text, each with how often the text has it
 abbrev pub weights_of : List ℕ → List (List ℕ × ℕ)
 weights_of text = tally (terms_of text)
+
+-- terms with how often they are there, each with the weight of that
+abbrev pub reweighed : (ℕ → ℕ) → List (List ℕ × ℕ) → List (List ℕ × ℕ)
+reweighed weight counts = map (λ e. (e.0, weight e.1)) counts
+
+-- the terms of a text, each with the weight of how often the text has it among so many
+abbrev pub weighed_by : (ℕ → ℕ → ℕ) → List ℕ → List (List ℕ × ℕ)
+weighed_by weight text = reweighed (λ times. weight times (length (terms_of text))) (weights_of text)

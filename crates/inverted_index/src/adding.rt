@@ -1,10 +1,10 @@
 //! Documents that are added.
 ghost use Rattle.std.specs.Prelude.{◌≡◌, ℕ, IfOk, List};
 ghost use Rattle.map_model.specs.SetOperations.{union};
-ghost use Rattle.inverted_index.specs.Added.{IsAdded, outcomes_of, with_docs};
+ghost use Rattle.inverted_index.specs.Added.{IsAdded, IsAddedBy, outcomes_by, outcomes_of, with_docs, with_docs_by};
 ghost use Rattle.inverted_index.specs.Batches.{IsGathered, all_knowing, marked};
 ghost use Rattle.inverted_index.specs.Merging.{merged};
-ghost use Rattle.inverted_index.specs.Terms.{bytes_cmp};
+ghost use Rattle.inverted_index.specs.Terms.{bytes_cmp, weighed_by};
 ghost use Rattle.aug_monoid.specs.Fresh.{IsFresh};
 
 use crate::batch::{Gathered, gathered_all, gathered_part};
@@ -12,6 +12,7 @@ use crate::doc::{AddedDocs, Doc, Outcome};
 use crate::index::{Index, Lists};
 use crate::marking::{Marked, mark_new};
 use crate::postings::{Merge, Weights};
+use crate::weigh::{Times, Weigh};
 use aug_monoid::{NoMemory, Share};
 use fork_join::{Cut, Gate, On};
 use std::alloc::Global;
@@ -43,15 +44,16 @@ fn known_after<'a, C: Ledger>(
 }
 
 // Lists united with the postings of a batch, and what becomes of its documents.
-fn lists_after<R: Threads + Sync, G: Gate>(
+fn lists_after<R: Threads + Sync, G: Gate, W: Weigh + Sync>(
     on: On<R, G>,
     alloc: Global,
     lists: &Lists,
     docs: &[Marked<'_>],
+    weigh: &W,
 ) -> Result<Gathered, NoMemory>
-    ensures lists { IfOk result (λ out. (batch : List (List ℕ × List (ℕ × ℕ))) × IsGathered docs.now batch out.outcomes.items × (out.lists.entries ≡ union bytes_cmp merged lists.now.entries batch)) }
+    ensures lists { IfOk result (λ out. (batch : List (List ℕ × List (ℕ × ℕ))) × IsGathered (weighed_by (W.weight weigh.now)) docs.now batch out.outcomes.items × (out.lists.entries ≡ union bytes_cmp merged lists.now.entries batch)) }
 {
-    let batch = gathered_all(on, alloc, docs)?;
+    let batch = gathered_all(on, alloc, docs, weigh)?;
     let lists = lists.union(on.rt, alloc, on.gate, on.cut, &batch.lists, &Merge)?;
     Ok(Gathered {
         lists,
@@ -60,14 +62,15 @@ fn lists_after<R: Threads + Sync, G: Gate>(
 }
 
 // `lists_after` on one thread.
-fn lists_after_alone(
+fn lists_after_alone<W: Weigh>(
     alloc: Global,
     lists: &Lists,
     docs: &[Marked<'_>],
+    weigh: &W,
 ) -> Result<Gathered, NoMemory>
-    ensures lists { IfOk result (λ out. (batch : List (List ℕ × List (ℕ × ℕ))) × IsGathered docs.now batch out.outcomes.items × (out.lists.entries ≡ union bytes_cmp merged lists.now.entries batch)) }
+    ensures lists { IfOk result (λ out. (batch : List (List ℕ × List (ℕ × ℕ))) × IsGathered (weighed_by (W.weight weigh.now)) docs.now batch out.outcomes.items × (out.lists.entries ≡ union bytes_cmp merged lists.now.entries batch)) }
 {
-    let batch = gathered_part(alloc, docs)?;
+    let batch = gathered_part(alloc, docs, weigh)?;
     let lists = lists.union_alone(alloc, &batch.lists, &Merge)?;
     Ok(Gathered {
         lists,
@@ -90,13 +93,23 @@ impl Index {
         ensures index { IfOk result (λ added. added.index ≡ with_docs self.now docs.now) }
         ensures outcomes { IfOk result (λ added. added.outcomes.items ≡ outcomes_of self.now docs.now) }
     {
+        self.add_docs_by(On { rt, gate, cut }, alloc, docs, &Times)
+    }
+
+    /// `add_docs` with the weights of a rule, in place of how often a text has a term. In the time of `add_docs`, and of a rule's
+    /// answer for each different term of a new document. A refusal of the rule is handed on.
+    pub fn add_docs_by<R: Threads + Sync, G: Gate, W: Weigh + Sync>(
+        &self,
+        on: On<R, G>,
+        alloc: Global,
+        docs: &[Doc<'_>],
+        weigh: &W,
+    ) -> Result<AddedDocs, NoMemory>
+        ensures index { IfOk result (λ added. added.index ≡ with_docs_by (weighed_by (W.weight weigh.now)) self.now docs.now) }
+        ensures outcomes { IfOk result (λ added. added.outcomes.items ≡ outcomes_by (weighed_by (W.weight weigh.now)) self.now docs.now) }
+    {
         let (known, marks) = known_after::<Brand>(alloc, &self.known, docs, Blank::new(1))?;
-        let Gathered { lists, outcomes } = lists_after(
-            On { rt, gate, cut },
-            alloc,
-            &self.lists,
-            &marks,
-        )?;
+        let Gathered { lists, outcomes } = lists_after(on, alloc, &self.lists, &marks, weigh)?;
         Ok(AddedDocs {
             index: Index { known, lists },
             outcomes,
@@ -109,8 +122,21 @@ impl Index {
         ensures index { IfOk result (λ added. added.index ≡ with_docs self.now docs.now) }
         ensures outcomes { IfOk result (λ added. added.outcomes.items ≡ outcomes_of self.now docs.now) }
     {
+        self.add_docs_by_alone(alloc, docs, &Times)
+    }
+
+    /// `add_docs_by` on one thread, in the time of `add_docs_alone` and of the rule's answers.
+    pub fn add_docs_by_alone<W: Weigh>(
+        &self,
+        alloc: Global,
+        docs: &[Doc<'_>],
+        weigh: &W,
+    ) -> Result<AddedDocs, NoMemory>
+        ensures index { IfOk result (λ added. added.index ≡ with_docs_by (weighed_by (W.weight weigh.now)) self.now docs.now) }
+        ensures outcomes { IfOk result (λ added. added.outcomes.items ≡ outcomes_by (weighed_by (W.weight weigh.now)) self.now docs.now) }
+    {
         let (known, marks) = known_after::<Brand>(alloc, &self.known, docs, Blank::new(1))?;
-        let Gathered { lists, outcomes } = lists_after_alone(alloc, &self.lists, &marks)?;
+        let Gathered { lists, outcomes } = lists_after_alone(alloc, &self.lists, &marks, weigh)?;
         Ok(AddedDocs {
             index: Index { known, lists },
             outcomes,
@@ -140,6 +166,7 @@ impl Index {
             Outcome::New { terms } => Ok(Added::New { index, terms }),
         }
     }
+
     /// `add_doc` on one thread. O(log d) for an index of d documents where the document is known, and
     /// O(b + n * log n + m * log(t + d)) where it is new, for a text of b bytes with n terms, of which m differ, and an index of t
     /// terms.
@@ -149,6 +176,25 @@ impl Index {
     {
         let docs = [Doc { doc, text }];
         let AddedDocs { index, outcomes } = self.add_docs_alone(alloc, &docs)?;
+        match outcomes[0] {
+            Outcome::Known => Ok(Added::Known),
+            Outcome::New { terms } => Ok(Added::New { index, terms }),
+        }
+    }
+
+    /// `add_doc_alone` with the weights of a rule, as `add_docs_by` has it.
+    #[tactic(auto, using(crate::proofs::OneMore::known_told, crate::proofs::OneMore::new_told))]
+    pub fn add_doc_by_alone<W: Weigh>(
+        &self,
+        alloc: Global,
+        doc: u64,
+        text: &[u8],
+        weigh: &W,
+    ) -> Result<Added, NoMemory>
+        ensures { IfOk result (λ added. IsAddedBy (weighed_by (W.weight weigh.now)) self.now doc text.now added) }
+    {
+        let docs = [Doc { doc, text }];
+        let AddedDocs { index, outcomes } = self.add_docs_by_alone(alloc, &docs, weigh)?;
         match outcomes[0] {
             Outcome::Known => Ok(Added::Known),
             Outcome::New { terms } => Ok(Added::New { index, terms }),

@@ -1,7 +1,8 @@
 //! An inverted index: documents with weighted terms, kept as postings by term.
 //!
 //! An `Index` is a map from terms to `Postings`, the maps from documents to weights, whose fold has the greatest weight.
-//! Documents are added one at a time or in batches (`add_doc`, `add_docs`), a term's weight being how often the text has it.
+//! Documents are added one at a time or in batches (`add_doc`, `add_docs`), a term's weight being how often the text has it, or what a
+//! rule of the user's makes of that (`Weigh`, `add_docs_by`).
 //! `remove_doc` and `replace_doc` take one out again; `size`, `has_doc`, `doc_freq`, `terms` and `terms_from` tell what there is.
 //! `all_of`, `any_of` and `without` intersect, unite and take away postings; `top` answers the first documents by falling weight.
 //! `matching` answers the documents of a term as `Matches`, of which larger questions are put together, and their first documents.
@@ -30,6 +31,7 @@ mod table;
 mod tally;
 mod term;
 mod text;
+mod weigh;
 mod weighing;
 
 pub use adding::Added;
@@ -40,3 +42,4 @@ pub use index::{Index, Lists};
 pub use matching::Matches;
 pub use postings::{Postings, Weights};
 pub use term::{Term, TermFault, is_term};
+pub use weigh::{Times, Weigh};

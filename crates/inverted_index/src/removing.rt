@@ -2,17 +2,18 @@
 ghost use Rattle.std.specs.Prelude.{◌≡◌, ℕ, List, Some, cond, IfOk, OnOk};
 ghost use Rattle.std.specs.Ordering.{is_eq, nat_cmp};
 ghost use Rattle.map_model.specs.Entries.{IsIncreasing, drop_key, lookup};
-ghost use Rattle.inverted_index.specs.Added.{IsAdded, IsNew};
+ghost use Rattle.inverted_index.specs.Added.{IsAdded, IsAddedBy, IsNew};
 ghost use Rattle.inverted_index.specs.Documents.{without_doc};
 ghost use Rattle.inverted_index.specs.Queries.{if_filled};
 ghost use Rattle.inverted_index.specs.Removing.{taken};
-ghost use Rattle.inverted_index.specs.Terms.{bytes_cmp};
+ghost use Rattle.inverted_index.specs.Terms.{bytes_cmp, weighed_by};
 ghost use Rattle.aug_monoid.specs.Fresh.{IsFresh};
 
 use crate::adding::Added;
 use crate::index::{Index, Lists};
 use crate::postings::{Postings, Weights};
 use crate::term::Term;
+use crate::weigh::Weigh;
 use aug_monoid::{NoMemory, Share, Steps};
 use fork_join::{Cut, Gate};
 use std::alloc::Global;
@@ -151,5 +152,20 @@ impl Index {
     {
         let rest = self.remove_doc(alloc, doc)?;
         rest.add_doc_alone(alloc, doc, text)
+    }
+
+    /// `replace_doc_alone` with the weights of a rule, as `Index::add_docs_by` has it.
+    pub fn replace_doc_by_alone<W: Weigh>(
+        &self,
+        alloc: Global,
+        doc: u64,
+        text: &[u8],
+        weigh: &W,
+    ) -> Result<Added, NoMemory>
+        ensures added { IfOk result (λ added. IsAddedBy (weighed_by (W.weight weigh.now)) (without_doc self.now doc) doc text.now added) }
+        ensures new { IfOk result (λ added. IsNew added) }
+    {
+        let rest = self.remove_doc(alloc, doc)?;
+        rest.add_doc_by_alone(alloc, doc, text, weigh)
     }
 }

@@ -5,11 +5,13 @@ ghost use Rattle.std.specs.BTreeMap.{IsOrdered, get};
 ghost use Rattle.std.specs.Ordering.{is_eq};
 ghost use Rattle.map_model.specs.Entries.{IsIncreasing, lookup};
 ghost use Rattle.inverted_index.specs.Batches.{first_weights, grown};
-ghost use Rattle.inverted_index.specs.Terms.{bytes_cmp};
+ghost use Rattle.inverted_index.specs.Documents.{AreFit};
+ghost use Rattle.inverted_index.specs.Terms.{bytes_cmp, reweighed};
 
 use crate::index::Lists;
 use crate::postings::Postings;
 use crate::term::Term;
+use crate::weigh::Weigh;
 use aug_monoid::{NoMemory, Share};
 use std::alloc::Global;
 use std::collections::BTreeMap;
@@ -97,18 +99,22 @@ fn push_pair(
     Ok(())
 }
 
-/// One more document with its terms.
-pub(crate) fn push_doc(
+/// One more document with its terms, each with how often it is there among `terms`, by what a rule weighs them.
+pub(crate) fn push_doc<W: Weigh>(
     alloc: Global,
     table: &mut Table,
     doc: u64,
-    weights: &[(Term, u64)],
+    counts: &[(Term, u64)],
+    terms: u64,
+    weigh: &W,
 ) -> Result<(), NoMemory>
-    requires { IsIncreasing bytes_cmp weights.now }
-    ensures { OnOk result ((t : List ℕ) → get bytes_cmp table.new t ≡ grown doc (get bytes_cmp table.old t) (lookup bytes_cmp weights.now t)) }
+    requires { IsIncreasing bytes_cmp counts.now }
+    ensures after { OnOk result ((t : List ℕ) → get bytes_cmp table.new t ≡ grown doc (get bytes_cmp table.old t) (lookup bytes_cmp (reweighed (λ times. W.weight weigh.now times terms) counts.now) t)) }
+    ensures fit { OnOk result (AreFit (reweighed (λ times. W.weight weigh.now times terms) counts.now)) }
 {
-    for (term, weight) in weights {
-        push_pair(alloc, table, term, doc, *weight)?;
+    for (term, times) in counts {
+        let weight = weigh.weigh(alloc, *times, terms)?;
+        push_pair(alloc, table, term, doc, weight)?;
     }
     Ok(())
 }

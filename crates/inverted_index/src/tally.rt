@@ -3,9 +3,8 @@ ghost use Rattle.std.specs.Prelude.{◌≡◌, IfOk, [], ◌∷◌, length, ◌<
 ghost use Rattle.aug_monoid.specs.Fresh.{IsFresh};
 ghost use Rattle.map_model.specs.Entries.{IsIncreasing};
 ghost use Rattle.map_model.specs.SetOperations.{union};
-ghost use Rattle.inverted_index.specs.Documents.{AreFit};
 ghost use Rattle.inverted_index.specs.Merging.{sat};
-ghost use Rattle.inverted_index.specs.Terms.{bytes_cmp, tally, weights_of};
+ghost use Rattle.inverted_index.specs.Terms.{bytes_cmp, tally, terms_of, weights_of};
 
 use crate::term::Term;
 use crate::text::terms_of;
@@ -71,14 +70,15 @@ fn both_counted<C: Ledger>(
     union_of(alloc, front, back, &SatSum, &mut steps)
 }
 
-/// The terms of a text, each with how often the text has it, in the order of bytes.
-pub(crate) fn weights_of(alloc: Global, text: &[u8]) -> Result<Vec<(Term, u64)>, NoMemory>
-    ensures value { IfOk result (λ weights. weights.items ≡ weights_of text.now) }
-    ensures rises { IfOk result (λ weights. IsIncreasing bytes_cmp weights.items) }
-    ensures fit { IfOk result (λ weights. AreFit weights.items) }
+/// The terms of a text, each with how often the text has it, in the order of bytes, and how many terms the text has in all.
+pub(crate) fn counts_of(alloc: Global, text: &[u8]) -> Result<(Vec<(Term, u64)>, u64), NoMemory>
+    ensures counts { IfOk result (λ r. r.0.items ≡ weights_of text.now) }
+    ensures rises { IfOk result (λ r. IsIncreasing bytes_cmp r.0.items) }
+    ensures number { IfOk result (λ r. r.1 ≡ length (terms_of text.now)) }
 {
     let terms = terms_of(alloc, text)?;
     let terms = terms.as_slice();
-    let _number = terms.len(); // for the proof alone: there are fewer than 2^64 terms
-    tally(alloc, terms)
+    let number = terms.len() as u64;
+    let counts = tally(alloc, terms)?;
+    Ok((counts, number))
 }

@@ -23,3 +23,5 @@ mod orders;
 mod points;
 #[cfg(test)]
 mod shortest_first;
+#[cfg(test)]
+mod weighing;

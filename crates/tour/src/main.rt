@@ -8,6 +8,7 @@ mod bookings;
 mod choice;
 mod journey;
 mod phone_book;
+mod ranking;
 mod rope;
 mod search;
 mod series;
@@ -21,6 +22,7 @@ fn main(rt: HostRuntime) -> Result<()> {
     println!(rt; "A time series\n{}", series::page(alloc)?)?;
     println!(rt; "Bookings\n{}", bookings::page(alloc)?)?;
     println!(rt; "Search\n{}", search::page(alloc)?)?;
+    println!(rt; "Ranking\n{}", ranking::page(alloc)?)?;
     println!(rt; "A journey\n{}", journey::page(alloc)?)?;
     println!(rt; "An editor\n{}", rope::page(alloc)?)?;
     println!(rt; "A weighted choice\n{}", choice::page(alloc)?)?;

@@ -5,7 +5,7 @@ use inverted_index::{Doc, Index, Term};
 use std::alloc::Global;
 
 /// Ten lines of a notebook.
-const NOTES: &[&[u8]] = &[
+pub(crate) const NOTES: &[&[u8]] = &[
     b"Apples and pears, baked with honey",
     b"Bread: flour, water, salt, and a day",
     b"Honey cake with almonds, and more honey",
@@ -18,8 +18,8 @@ const NOTES: &[&[u8]] = &[
     b"Baked apples without honey",
 ];
 
-// The term of a word.
-fn term(alloc: Global, word: &[u8]) -> Result<Term> {
+/// The term of a word.
+pub(crate) fn term(alloc: Global, word: &[u8]) -> Result<Term> {
     match Term::of(alloc, word) {
         Ok(term) => Ok(term),
         Err(_) => bail!("no term"),

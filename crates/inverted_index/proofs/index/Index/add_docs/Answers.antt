@@ -1,18 +1,11 @@
 use Rattle.std.proofs.Common.{◌∙◌}
-use Rattle.inverted_index.proofs.Batched.{batched}
+use Rattle.std.proofs.lemmas.Result.{IfOk-weaker}
+use Rattle.inverted_index.proofs.Weighed.{docs_same, outcomes_same, times_weighed}
+use Rattle.inverted_index.specs.Terms.{weighed_by, weights_of}
 use Rattle.inverted_index.proofs.index.Index.add_docs.Goals as goal
 
-pub invariant_of-result : goal.invariant_of-result
-invariant_of-result g c =
-    let e = c.in_ok-lists.ensures.lists in
-    (batched c.args.docs.now c.deref.result.now c.self.inside.known.entries c.in_ok-known.known.entries c.self.inside.lists.entries e.0 c.in_ok-lists.field-0.lists.entries c.args.self.now c.in_ok-lists.field-0.outcomes.items c.self.invariant c.self.view_is c.in_ok-known.ensures.after (c.deref.ensures.value ∙ c.in_ok-known.ensures.marks) e.1 e.2).0
-
 pub returns-clause-index : goal.returns-clause-index
-returns-clause-index g c =
-    let e = c.in_ok-lists.ensures.lists in
-    (batched c.args.docs.now c.deref.result.now c.self.inside.known.entries c.in_ok-known.known.entries c.self.inside.lists.entries e.0 c.in_ok-lists.field-0.lists.entries c.args.self.now c.in_ok-lists.field-0.outcomes.items c.self.invariant c.self.view_is c.in_ok-known.ensures.after (c.deref.ensures.value ∙ c.in_ok-known.ensures.marks) e.1 e.2).1
+returns-clause-index g c = IfOk-weaker c.add_docs_by.result _ _ (λ added is. is ∙ docs_same (weighed_by (λ times _. times)) weights_of times_weighed c.args.self.now c.args.docs.now) c.add_docs_by.ensures.index
 
 pub returns-clause-outcomes : goal.returns-clause-outcomes
-returns-clause-outcomes g c =
-    let e = c.in_ok-lists.ensures.lists in
-    (batched c.args.docs.now c.deref.result.now c.self.inside.known.entries c.in_ok-known.known.entries c.self.inside.lists.entries e.0 c.in_ok-lists.field-0.lists.entries c.args.self.now c.in_ok-lists.field-0.outcomes.items c.self.invariant c.self.view_is c.in_ok-known.ensures.after (c.deref.ensures.value ∙ c.in_ok-known.ensures.marks) e.1 e.2).2
+returns-clause-outcomes g c = IfOk-weaker c.add_docs_by.result _ _ (λ added is. is ∙ outcomes_same (weighed_by (λ times _. times)) weights_of times_weighed c.args.self.now c.args.docs.now) c.add_docs_by.ensures.outcomes

@@ -1,4 +1,0 @@
-use Rattle.inverted_index.proofs.index.Index.add_docs_alone.Given as goal
-
-abbrev pub ghosts-known_after : goal.ghosts-known_after
-ghosts-known_after a = record { name = a.blank.name; parts = a.blank.parts }
