@@ -1,12 +1,13 @@
 //! The value at a key, and maps with one key changed.
 ghost use Rattle.std.specs.Prelude.{◌≡◌, ◌+◌, ◌*◌, ◌≤◌, [], ◌∷◌, IfOk, IsOk};
+ghost use Rattle.std.specs.Option.{option_copied};
 ghost use Rattle.map_model.specs.Entries.{drop_key, lookup, set};
 
 use crate::map::Map;
 use aug_monoid::{NoMemory, Steps};
 use std::alloc::Global;
 use std::sync::ledger::Ledger;
-use tree_shape::Shape;
+use tree_shape::{Shape, ShapeRef};
 
 impl<M: Shape> Map<M> {
     /// The map of one entry. O(1).
@@ -56,5 +57,15 @@ impl<M: Shape> Map<M> {
         ensures cost { steps.new ≤ steps.old + (64 * (self.now.height + 1) * (M.BLOCK + 2) + M.Leaf.FIND) }
     {
         Map::from_tree(tree_entry::del(alloc, &self.tree, key, steps))
+    }
+}
+
+impl<M: ShapeRef> Map<M> {
+    /// Lends the value at a key, if it is there, in at most `height + M::Leaf::FIND` steps. It takes no memory.
+    pub fn get_ref<C: Ledger>(&self, key: &M::Key, steps: &mut Steps<C>) -> Option<&M::Val>
+        ensures value { option_copied result ≡ lookup M.Key.cmp self.now.entries key.now }
+        ensures cost { steps.new ≤ steps.old + (self.now.height + M.Leaf.FIND) }
+    {
+        tree_entry::get_ref(&self.tree, key, steps)
     }
 }

@@ -4,5 +4,5 @@ pub use crate::map::Map;
 pub use crate::shapes::{Coded, Plain};
 pub use bulk_changes::{IntoShape, SyncIntoShape};
 pub use tree_change::ShapeMut;
-pub use tree_shape::{Of, Shape, SyncShape};
-pub use tree_walk::Cursor;
+pub use tree_shape::{Of, Shape, ShapeRef, SyncShape};
+pub use tree_walk::{Cursor, IterRef};

@@ -3,8 +3,8 @@ ghost use Rattle.std.specs.Prelude.{◌≡◌, slice_range};
 
 use crate::map::Map;
 use std::alloc::Global;
-use tree_shape::Shape;
-use tree_walk::Cursor;
+use tree_shape::{Shape, ShapeRef};
+use tree_walk::{Cursor, IterRef};
 
 impl<M: Shape> Map<M> {
     /// Goes over the entries in the order of their keys: one item an entry, a share of it or a refusal of that share. It keeps the
@@ -23,5 +23,15 @@ impl<M: Shape> Map<M> {
         ensures { result ≡ slice_range self.now.entries from to }
     {
         tree_walk::cursor_between(alloc, &self.tree, from, to)
+    }
+}
+
+impl<M: ShapeRef> Map<M> {
+    /// Goes over the entries in the order of their keys, which it lends where they stand. It takes no memory. An entry takes O(1), but
+    /// the first one of a block, and one between two blocks, O(log n) in a map of n entries.
+    pub fn iter_ref(&self) -> IterRef<'_, M>
+        ensures { result ≡ self.now.entries }
+    {
+        tree_walk::iter_ref(&self.tree)
     }
 }

@@ -4,7 +4,7 @@ ghost use Rattle.map_model.specs.Entries.{IsIncreasing};
 
 use crate::copying::{push_shares, shares_of};
 use crate::seeking::seek_in;
-use aug_monoid::{Key, Leaf, LeafMut, Lent, NoMemory, Seek, Share, Steps, Walk};
+use aug_monoid::{Key, Leaf, LeafMut, LeafRef, Lent, NoMemory, Seek, Share, Steps, Walk};
 use std::alloc::Global;
 use std::marker::Model;
 use std::sync::ledger::Ledger;
@@ -174,5 +174,11 @@ impl<K: Key, V: Share> LeafMut<K, V> for PlainLeaf<K, V> {
     fn remove_at(&mut self, _alloc: Global, at: u64) -> Result<(), NoMemory> {
         self.entries.remove(at as usize);
         Ok(())
+    }
+}
+
+impl<K: Key, V: Share> LeafRef<K, V> for PlainLeaf<K, V> {
+    fn as_slice(&self) -> &[(K, V)] {
+        &self.entries
     }
 }

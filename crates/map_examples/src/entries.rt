@@ -12,6 +12,13 @@ pub fn get(alloc: Global) -> Result<Option<u64>, NoMemory>
     map.get(alloc, &2)
 }
 
+pub fn get_ref(alloc: Global) -> Result<Option<u64>, NoMemory>
+    ensures { IfOk result (λ val. val ≡ Some 20) }
+{
+    let map = Sums::from_pairs(alloc, &[(1, 10), (2, 20)])?;
+    Ok(map.get_ref(&2).copied())
+}
+
 pub fn contains_key(alloc: Global) -> Result<bool, NoMemory>
     ensures { IfOk result (λ yes. yes ≡ false) }
 {

@@ -1,5 +1,6 @@
 //! Calls that count their steps, each with a counter of its own.
 ghost use Rattle.std.specs.Prelude.{◌≡◌, [], ◌∷◌, IfOk, IsOk, OnErr, length};
+ghost use Rattle.std.specs.Option.{option_copied};
 ghost use Rattle.map_model.specs.Entries.{drop_key, lookup, set};
 ghost use Rattle.map_model.specs.Fold.{fold_of, range_fold};
 ghost use Rattle.map_model.specs.Parts.{left_of, next, prev, rank, right_of};
@@ -24,6 +25,19 @@ pub(crate) fn get<A: Augment, C: Ledger>(
 {
     let mut steps = Steps::<C>::start(blank);
     map.get(alloc, key, &mut steps)
+}
+
+/// Lends the value at a key.
+pub(crate) fn get_ref<'a, A: Augment, C: Ledger>(
+    map: &'a PlainMap<A>,
+    key: &A::Key,
+    blank: Blank,
+) -> Option<&'a A::Val>
+    requires { IsFresh C.name C.parts blank }
+    ensures { option_copied result ≡ lookup A.Key.cmp map.now.entries key.now }
+{
+    let mut steps = Steps::<C>::start(blank);
+    map.get_ref(key, &mut steps)
 }
 
 /// Sets a key to a value.

@@ -1,6 +1,6 @@
 //! What stands at a key, at a place, and beside a key.
 ghost use Rattle.std.specs.Prelude.{◌≡◌, IfOk, IsOk, is_some, length};
-ghost use Rattle.std.specs.Option.{unwrap_or};
+ghost use Rattle.std.specs.Option.{option_copied, unwrap_or};
 ghost use Rattle.map_model.specs.Entries.{lookup};
 ghost use Rattle.map_model.specs.Parts.{left_of, next, prev, rank, select};
 ghost use Rattle.ord_map.specs.Ends.{last};
@@ -22,6 +22,16 @@ impl<A: Augment> OrdMap<A> {
         ensures succeeds { A.Key.never_refuses → A.Val.never_refuses → IsOk result }
     {
         counters::get::<A, Brand>(alloc, &self.map, key, Blank::new(1))
+    }
+
+    /// Lends the value at a key, if it is there, in O(log n). It takes no memory.
+    ///
+    ///     let map = Sums::from_pairs(alloc, &[(1, 10), (2, 20)])?;
+    ///     map.get_ref(&2).copied()     // Some(20)
+    pub fn get_ref(&self, key: &A::Key) -> Option<&A::Val>
+        ensures { option_copied result ≡ lookup A.Key.cmp self.now key.now }
+    {
+        counters::get_ref::<A, Brand>(&self.map, key, Blank::new(1))
     }
 
     /// Whether the key is there, in O(log n). It makes a share of the key's value, and refuses where that refuses.

@@ -29,5 +29,5 @@ pub use cut::{Around, cut_around};
 pub use folding::fold_leaf;
 pub use look::Look;
 pub use of::{Of, lawful_block};
-pub use shape::{Shape, SyncShape};
+pub use shape::{Shape, ShapeRef, SyncShape};
 pub use tree::{Block, Node, Top, Tree};

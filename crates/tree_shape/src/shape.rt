@@ -2,7 +2,7 @@
 ghost use Rattle.std.specs.Prelude.{ℕ};
 ghost use Rattle.map_model.specs.Balance.{IsBlockSize};
 
-use aug_monoid::{Augment, Key, Leaf, Share};
+use aug_monoid::{Augment, Key, Leaf, LeafRef, Share};
 use std::marker::{Send, Sync};
 
 /// What a tree is made of: its keys, values and folds, the leaves in which its entries stand, and how many a block of them holds
@@ -25,6 +25,11 @@ pub trait Shape: Drop {
 
     ghost lawful: { IsBlockSize BLOCK };
 }
+
+/// A `Shape` whose leaves keep their entries as they are, so that trees lend what stands in them.
+pub trait ShapeRef: Shape<Leaf: LeafRef<<Self as Shape>::Key, <Self as Shape>::Val>> {}
+
+impl<M: Shape<Leaf: LeafRef<<M as Shape>::Key, <M as Shape>::Val>>> ShapeRef for M {}
 
 /// A `Shape` of what is sent to and shared among threads.
 pub trait SyncShape: Shape<

@@ -1,3 +1,4 @@
 mod Dropped
 mod Fronts
 mod Ways
+mod Begins

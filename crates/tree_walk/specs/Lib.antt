@@ -1,3 +1,4 @@
 pub mod Seats
 pub mod Places
 pub mod Shares
+pub mod Runs

@@ -1,4 +1,5 @@
-//! Walks over trees: a cursor, which gives shares of the entries from both ends, and where an entry stands by its number.
+//! Walks over trees: a cursor, which gives shares of the entries from both ends, an iterator that lends them, and where an entry stands
+//! by its number.
 //!
 //! A cursor keeps its place in a block and the entry that follows the block, so that only the first entry of a block is looked up
 //! from the root; the place at its back is kept apart. It stands on `tree_shape`.
@@ -8,7 +9,9 @@
 
 mod back;
 mod cursor;
+mod lending;
 mod seat;
 
 pub use cursor::{Cursor, cursor_between};
+pub use lending::{IterRef, iter_ref};
 pub use seat::is_key_at;

@@ -98,6 +98,40 @@ fn assert_walked<R: Abort, L: Leaf<u64, u64>>(rt: &R, alloc: Global, count: u64)
     assert_walked_counted::<R, L, Brand>(rt, alloc, &entries, Blank::new(1));
 }
 
+/// The entries that a map lends, and of one call more.
+fn lent<R: Abort>(rt: &R, alloc: Global, map: &Sums<PlainLeaf<u64, u64>, 32>) -> Entries {
+    let mut entries = Vec::new(alloc);
+    let mut iter = map.iter_ref();
+    while let Some((key, val)) = iter.next() {
+        entries.push((*key, *val)).expect(rt, "memory");
+    }
+    assert!(rt; iter.next().is_none());
+    entries
+}
+
+/// Asserts that a map of these entries, whose keys are multiples of 3, lends each, and nothing at the keys between.
+fn assert_lent<R: Abort, C: Ledger>(rt: &R, alloc: Global, entries: &[(u64, u64)], blank: Blank)
+    requires { IsFresh C.name C.parts blank }
+{
+    let mut steps = Steps::<C>::start(blank);
+    let map = map_of::<R, PlainLeaf<u64, u64>, 32, C>(rt, alloc, entries, &mut steps);
+    assert_eq!(rt; lent(rt, alloc, &map).as_slice(), entries);
+    for entry in entries {
+        let found = map.get_ref(&entry.0, &mut steps);
+        assert_eq!(rt; found.copied(), Some(entry.1));
+        let behind = entry.0.wrapping_add(1);
+        assert!(rt; map.get_ref(&behind, &mut steps).is_none());
+    }
+}
+
+#[test]
+fn a_map_in_plain_blocks_lends_its_values(rt: HostRuntime) {
+    for count in [0, 1, 64, 65, 1000] {
+        let entries = thirds(&rt, rt.alloc(), count);
+        assert_lent::<HostRuntime, Brand>(&rt, rt.alloc(), &entries, Blank::new(1));
+    }
+}
+
 #[test]
 fn a_cursor_gives_each_entry_once(rt: HostRuntime) {
     for count in [0, 1, 64, 65, 1000] {

@@ -70,6 +70,15 @@ fn what_a_map_tells_without_a_walk(rt: HostRuntime) {
 }
 
 #[test]
+fn a_value_is_lent_where_its_key_is_there(rt: HostRuntime) {
+    let map = four(&rt, rt.alloc());
+    assert_eq!(rt; map.get_ref(&6).copied(), Some(60));
+    assert!(rt; map.get_ref(&5).is_none());
+    let none: Sums = OrdMap::new();
+    assert!(rt; none.get_ref(&6).is_none());
+}
+
+#[test]
 fn what_an_empty_map_tells(rt: HostRuntime) {
     let none: Sums = OrdMap::new();
     assert_eq!(rt; told(&rt, rt.alloc(), &none), (0, None, 0, 0, 0));
