@@ -78,13 +78,15 @@ marks_rise (s ∷ sets) h = (above sets h.0, marks_rise sets h.1)
     above [] h = tt
     above (t ∷ sets) h = (h.0, above sets h.1)
 
-pub length-sources : (sets : Sets) → AreSets sets → length (sources (edges_of sets)) ≡ length sets
-length-sources sets are =
+pub sources-edges_of : (sets : Sets) → AreSets sets → sources (edges_of sets) ≡ keys_of sets
+sources-edges_of sets are =
     let firsts = elements (map (λ (e : ℕ × ℕ). e.0) (edges_of sets)) in
-    ap (λ m. length (keys_of m)) (equal_lookups nat_cmp_total nat_exact (build nat_cmp firsts) (marks sets) (IsIncreasing-build nat_cmp_total firsts) (marks_rise sets are.increasing) (λ q.
+    ap keys_of (equal_lookups nat_cmp_total nat_exact (build nat_cmp firsts) (marks sets) (IsIncreasing-build nat_cmp_total firsts) (marks_rise sets are.increasing) (λ q.
     lookup-after_puts nat_cmp_total nat_exact firsts [] q ∙ option_or-none (last_at nat_cmp firsts q) ∙ last-element nat_cmp firsts q ∙ found-sources sets q are))
-    ∙ ap length (keys-elements (keys_of sets))
-    ∙ length-keys_of sets
+    ∙ keys-elements (keys_of sets)
+
+pub length-sources : (sets : Sets) → AreSets sets → length (sources (edges_of sets)) ≡ length sets
+length-sources sets are = ap length (sources-edges_of sets are) ∙ length-keys_of sets
 
 -- ---- edges
 

@@ -7,6 +7,7 @@ ghost use Rattle.graph_snap.specs.Walks.{HasDistances, IsLeastPath, IsOutOfReach
 use crate::batch::{sets_of, sets_of_alone, turned_sets};
 use crate::counting::edges_in;
 use crate::edge::{Edge, Reached};
+use crate::iterators::{NeighboursIter, VerticesIter, elements_at, vertices_of};
 use crate::least_path::least_path;
 use crate::listing::edge_list;
 use crate::search::search;
@@ -113,11 +114,32 @@ impl Graph {
         edge_list(alloc, &self.vertices)
     }
 
-    /// How many out-neighbours a vertex has. O(log n) for n vertices.
-    pub fn degree(&self, alloc: Global, vertex: u64) -> Result<u64, NoMemory>
+    /// How many out-neighbours a vertex has. It takes no memory. O(log n) for n vertices.
+    pub fn out_degree(&self, vertex: u64) -> u64
+        ensures { result ≡ length (out_neighbours self.now vertex) }
+    {
+        degree_at(&self.vertices, vertex)
+    }
+
+    /// What `out_degree` answers: it never refuses.
+    pub fn degree(&self, _alloc: Global, vertex: u64) -> Result<u64, NoMemory>
         ensures { IfOk result (λ n. n ≡ length (out_neighbours self.now vertex)) }
     {
-        degree_at(alloc, &self.vertices, vertex)
+        Ok(self.out_degree(vertex))
+    }
+
+    /// Goes over the vertices with an out-neighbour in order. It takes no memory.
+    pub fn vertices_iter(&self) -> VerticesIter<'_>
+        ensures { result ≡ sources self.now }
+    {
+        vertices_of(&self.vertices)
+    }
+
+    /// Goes over the out-neighbours of a vertex in order; over none where it has no edge. It takes no memory. O(log n) for n vertices.
+    pub fn neighbours_iter(&self, alloc: Global, vertex: u64) -> NeighboursIter<'_>
+        ensures { result ≡ out_neighbours self.now vertex }
+    {
+        elements_at(alloc, &self.vertices, vertex)
     }
 
     /// The out-neighbours of a vertex in order; none where it has no edge. O(log n + k) for n vertices and k out-neighbours.

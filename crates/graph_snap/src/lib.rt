@@ -5,7 +5,7 @@
 //! `bfs` answers what walks from a vertex reach, with the least numbers of edges, `within` what of it is not too far, `path` the
 //! vertices of one walk of least length, and `reversed` turns each edge round. What is called with a runtime and a cut forks where
 //! the cut allows it, and answers the same on any number of threads, as its twin with a name in `_alone` does on one. A call refuses
-//! only for want of memory.
+//! only for want of memory; `out_degree`, `vertices_iter` and `neighbours_iter` want none, and never refuse.
 //!
 //! Tests: `library_tests`. Wrong bodies: here, in `wrong-bodies/`.
 #![tactic(auto)]
@@ -16,6 +16,7 @@ mod cross;
 mod degrees;
 mod edge;
 mod graph;
+mod iterators;
 mod least_path;
 mod listing;
 mod neighbours;
@@ -27,5 +28,6 @@ pub use cross::graph_crosses;
 pub use degrees::Degrees;
 pub use edge::{Edge, Reached};
 pub use graph::Graph;
+pub use iterators::{NeighboursIter, VerticesIter};
 pub use neighbours::Neighbours;
 pub use vertices::Vertices;

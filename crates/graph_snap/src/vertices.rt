@@ -1,6 +1,7 @@
 //! The map from vertices to their sets of out-neighbours.
 ghost use Rattle.std.specs.Prelude.{◌≡◌, is_some, length, IfOk};
 ghost use Rattle.std.specs.Map.{keys_of};
+ghost use Rattle.std.specs.Option.{option_copied};
 ghost use Rattle.std.specs.Ordering.{nat_cmp};
 ghost use Rattle.map_model.specs.Entries.{lookup};
 ghost use Rattle.graph_snap.specs.Batches.{IsLessened, IsUnited};
@@ -48,12 +49,30 @@ pub(crate) fn set_at(
     set_counted::<Brand>(alloc, vertices, vertex, Blank::new(1))
 }
 
-/// How many elements the set of a vertex has.
-pub(crate) fn degree_at(alloc: Global, vertices: &Vertices, vertex: u64) -> Result<u64, NoMemory>
-    ensures { IfOk result (λ n. n ≡ length (set_at vertices.now.entries vertex)) }
+// Lends the set of a vertex, with a counter that the caller gives up.
+fn ref_counted<C: Ledger>(vertices: &Vertices, vertex: u64, blank: Blank) -> Option<&Neighbours>
+    requires { IsFresh C.name C.parts blank }
+    ensures { option_copied result ≡ lookup nat_cmp vertices.now.entries vertex }
 {
-    let set = set_at(alloc, vertices, vertex)?;
-    Ok(set.size())
+    let mut steps = Steps::<C>::start(blank);
+    vertices.get_ref(&vertex, &mut steps)
+}
+
+/// Lends the set of a vertex, if it has an out-neighbour.
+pub(crate) fn set_ref(vertices: &Vertices, vertex: u64) -> Option<&Neighbours>
+    ensures { option_copied result ≡ lookup nat_cmp vertices.now.entries vertex }
+{
+    ref_counted::<Brand>(vertices, vertex, Blank::new(1))
+}
+
+/// How many elements the set of a vertex has.
+pub(crate) fn degree_at(vertices: &Vertices, vertex: u64) -> u64
+    ensures { result ≡ length (set_at vertices.now.entries vertex) }
+{
+    match set_ref(vertices, vertex) {
+        Some(set) => set.size(),
+        None => 0,
+    }
 }
 
 /// The elements of the set of a vertex.

@@ -286,3 +286,26 @@ fn neighbours_and_edges_that_are_there(rt: HostRuntime) {
     assert_eq!(rt; graph.has_edge(alloc, 2, 3).expect(&rt, "memory"), false);
     assert_eq!(rt; graph.has_edge(alloc, 9, 1).expect(&rt, "memory"), false);
 }
+
+/// The items of an iterator.
+fn collected<R: Abort, I: Iterator<Item = u64>>(rt: &R, alloc: Global, iter: I) -> Vec<u64> {
+    let mut items = Vec::new(alloc);
+    for item in iter {
+        items.push(item).expect(rt, "memory");
+    }
+    items
+}
+
+#[test]
+fn vertices_and_neighbours_one_by_one(rt: HostRuntime) {
+    let alloc = rt.alloc();
+    let graph = graph_of(&rt, alloc, &ADDED, &[]);
+    assert_eq!(rt; graph.out_degree(2), 2);
+    assert_eq!(rt; graph.out_degree(9), 0);
+    let vertices = collected(&rt, alloc, graph.vertices_iter());
+    assert_eq!(rt; vertices.as_slice(), [1, 2, 3].as_slice());
+    let of_two = collected(&rt, alloc, graph.neighbours_iter(alloc, 2));
+    assert_eq!(rt; of_two.as_slice(), [1, 4].as_slice());
+    let of_nine = collected(&rt, alloc, graph.neighbours_iter(alloc, 9));
+    assert_eq!(rt; of_nine.len(), 0);
+}
