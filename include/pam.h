@@ -92,6 +92,8 @@ uint8_t pam_map_fold(pam_map *map, uint64_t *sum, uint64_t *greatest);
 /* The same of the values at keys from `lo` to `hi`, both included, in O(log n). 0, 4 */
 uint8_t pam_map_fold_range(pam_map *map, uint64_t lo, uint64_t hi, uint64_t *sum, uint64_t *greatest);
 
+/* How many keys are from `lo` to `hi`, both included, in O(log n). 0, 4 */
+uint8_t pam_map_count(pam_map *map, uint64_t lo, uint64_t hi, uint64_t *count);
 /* How many keys are less than `key`, in O(log n). 0, 4 */
 uint8_t pam_map_rank(pam_map *map, uint64_t key, uint64_t *rank);
 /* The entry at a place, counted from 0, in O(log n). 0, 1, 4 */
@@ -130,6 +132,15 @@ uint8_t pam_map_del_many(pam_map *map, const uint64_t *keys, size_t keys_len);
 uint8_t pam_map_bytes(pam_map *map, uint8_t *out, size_t room, size_t *needed);
 /* Opens a closed handle with the map that bytes are, in O(n log n). 0, 3, 4, 7 */
 uint8_t pam_map_from_bytes(pam_map *map, const uint8_t *bytes, size_t len);
+
+/* Signed keys: the key that stands for a number, which is the number moved up by 2^63, and the number for which a key stands. Keys
+ * are in the order of their numbers, so that all calls do with them as with these: a range from -5 to 5 is that of their keys. */
+static inline uint64_t pam_key_of_signed(int64_t number) {
+    return (uint64_t)number ^ (UINT64_C(1) << 63);
+}
+static inline int64_t pam_signed_of_key(uint64_t key) {
+    return key >> 63 ? (int64_t)(key & INT64_MAX) : (int64_t)key + INT64_MIN;
+}
 
 /* ---- Maps from byte strings to uint64_t, with the sum and the greatest of the values. n is the number of entries. ----
  *

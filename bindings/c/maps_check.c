@@ -56,6 +56,7 @@ static void check_questions(void) {
     CHECK(pam_map_fold(&map, &sum, &greatest) == PAM_OK && sum == 90 && greatest == 50);
     CHECK(pam_map_fold_range(&map, 2, 5, &sum, &greatest) == PAM_OK && sum == 80 && greatest == 50);
     CHECK(pam_map_fold_range(&map, 6, 9, &sum, &greatest) == PAM_OK && sum == 0 && greatest == 0);
+    CHECK(pam_map_count(&map, 1, 4, &rank) == PAM_OK && rank == 2 && pam_map_count(&map, 5, 1, &rank) == PAM_OK && rank == 0);
     CHECK(pam_map_rank(&map, 4, &rank) == PAM_OK && rank == 2);
     CHECK(pam_map_select(&map, 1, &key, &val) == PAM_OK && key == 3 && val == 30);
     CHECK(pam_map_select(&map, 3, &key, &val) == PAM_NOT_THERE && key == 3 && val == 30);
@@ -110,6 +111,21 @@ static void check_arrays(void) {
     CHECK(pam_map_free(&map) == PAM_OK);
 }
 
+static void check_signed_keys(void) {
+    static const int64_t NUMBERS[] = {INT64_MIN, -5, -1, 0, 1, INT64_MAX};
+    pam_map map = {0};
+    uint64_t sum = 7, greatest = 7, key = 7, val = 7;
+    CHECK(pam_key_of_signed(INT64_MIN) == 0 && pam_key_of_signed(INT64_MAX) == UINT64_MAX && pam_map_new(&map) == PAM_OK);
+    for (size_t i = 0; i < 6; i++) {
+        CHECK(pam_signed_of_key(pam_key_of_signed(NUMBERS[i])) == NUMBERS[i]);
+        CHECK(i == 0 || pam_key_of_signed(NUMBERS[i - 1]) < pam_key_of_signed(NUMBERS[i]));
+        CHECK(pam_map_put(&map, pam_key_of_signed(NUMBERS[i]), i) == PAM_OK);
+    }
+    CHECK(pam_map_fold_range(&map, pam_key_of_signed(-5), pam_key_of_signed(0), &sum, &greatest) == PAM_OK && sum == 6);
+    CHECK(pam_map_prev(&map, pam_key_of_signed(-1), &key, &val) == PAM_OK && pam_signed_of_key(key) == -5 && val == 1);
+    CHECK(pam_map_free(&map) == PAM_OK);
+}
+
 static const uint8_t ROW[] = "foobarfoo";
 static const size_t ENDS[] = {3, 3, 6, 9};
 
@@ -150,6 +166,7 @@ int main(void) {
     check_questions();
     check_two_maps();
     check_arrays();
+    check_signed_keys();
     check_texts();
     puts(wrong ? "wrong" : "all maps' calls as they should be");
     return wrong;

@@ -22,6 +22,7 @@ uint8_t pam_x_map_put(pam_map *map, uint64_t key, uint64_t val);
 uint8_t pam_x_map_del(pam_map *map, uint64_t key);
 uint8_t pam_x_map_fold(pam_map *map, uint64_t *sum, uint64_t *greatest);
 uint8_t pam_x_map_fold_range(pam_map *map, uint64_t lo, uint64_t hi, uint64_t *sum, uint64_t *greatest);
+uint8_t pam_x_map_count(pam_map *map, uint64_t lo, uint64_t hi, uint64_t *count);
 uint8_t pam_x_map_rank(pam_map *map, uint64_t key, uint64_t *rank);
 uint8_t pam_x_map_select(pam_map *map, uint64_t at, uint64_t *key, uint64_t *val);
 uint8_t pam_x_map_next(pam_map *map, uint64_t than, uint64_t *key, uint64_t *val);
@@ -152,6 +153,13 @@ uint8_t pam_map_fold_range(pam_map *map, uint64_t lo, uint64_t hi, uint64_t *sum
         return PAM_BAD_CALL;
     }
     return pam_x_map_fold_range(map, lo, hi, sum, greatest);
+}
+
+uint8_t pam_map_count(pam_map *map, uint64_t lo, uint64_t hi, uint64_t *count) {
+    if (BAD(map) || BAD(count)) {
+        return PAM_BAD_CALL;
+    }
+    return pam_x_map_count(map, lo, hi, count);
 }
 
 uint8_t pam_map_rank(pam_map *map, uint64_t key, uint64_t *rank) {

@@ -148,9 +148,21 @@ struct Maps {
         EXPECT(all == wanted);
         EXPECT(pam_map_fold_range(&m, lo, hi, &some.sum, &some.greatest) == PAM_OK);
         wanted = Folded();
-        for (auto &[_, val] : part(twin, lo, hi))
+        const Twin within = part(twin, lo, hi);
+        for (auto &[_, val] : within)
             wanted.add(val);
         EXPECT(some == wanted);
+        uint64_t count;
+        EXPECT(pam_map_count(&m, lo, hi, &count) == PAM_OK && count == within.size());
+    }
+
+    // Two numbers and their keys, which are in the same order.
+    void signed_keys()
+    {
+        int64_t a = (int64_t)run.number() >> run.below(64), b = (int64_t)run.number() >> run.below(64);
+        uint64_t key = run.key();
+        EXPECT((a < b) == (pam_key_of_signed(a) < pam_key_of_signed(b)));
+        EXPECT(pam_signed_of_key(pam_key_of_signed(a)) == a && pam_key_of_signed(pam_signed_of_key(key)) == key);
     }
 
     void filled(pam_map &m, const Twin &twin)
@@ -297,6 +309,7 @@ struct Maps {
         case 6: filled(maps[a], twins[a]); break;
         case 7: folded(maps[a], twins[a]); break;
         case 8: asked(maps[a], twins[a]); break;
+        case 9: signed_keys(); break;
         default: single(maps[a], twins[a]);
         }
     }

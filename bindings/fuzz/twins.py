@@ -21,11 +21,6 @@ def key(r):
     return r.choice([r.randrange(300), r.randrange(300), r.randrange(300) << 40, 0, TOP, TOP - r.randrange(3), r.getrandbits(64)])
 
 
-def any_key(r):
-    """A key, or a number beyond all keys, or no bound."""
-    return r.choice([key(r), key(r), key(r), -1, 2**64, None])
-
-
 def answer(call):
     """What a call answers, or the kind of what it raises."""
     try:
@@ -35,14 +30,24 @@ def answer(call):
 
 
 class Maps:
-    def __init__(self, r):
-        self.r, self.pairs = r, [(pam.Map(), SortedDict()) for _ in range(3)]
+    """Maps of a kind, whose keys begin at a number: those of a Map less 2**63 in a SignedMap."""
+
+    def __init__(self, r, kind=pam.Map, code="Q", first=0):
+        self.r, self.kind, self.code, self.first = r, kind, code, first
+        self.pairs = [(kind(), SortedDict()) for _ in range(3)]
+
+    def key(self):
+        return key(self.r) + self.first
+
+    def any_key(self):
+        """A key, or a number beyond all keys, or no bound."""
+        return self.r.choice([self.key(), self.key(), self.key(), self.first - 1, self.first + 2**64, None])
 
     def inside(self, twin, lo, hi):
         return [k for k in twin if (lo is None or lo <= k) and (hi is None or k < hi)]
 
     def single(self, m, twin):
-        r, k, v = self.r, key(self.r), key(self.r)
+        r, k, v = self.r, self.key(), key(self.r)
         name, words = r.choice([("__setitem__", (k, v)), ("__setitem__", (k, v)), ("__delitem__", (k,)), ("__getitem__", (k,)), ("get", (k, 5)),
                                 ("pop", (k, None)), ("setdefault", (k, v)), ("__contains__", (k,)), ("peekitem", (r.randrange(-5, 5),)),
                                 ("popitem", (r.randrange(-5, 5),)), ("bisect_left", (k,)), ("bisect_right", (k,))])
@@ -51,14 +56,14 @@ class Maps:
         assert mine == theirs or {mine, theirs} == {KeyError, IndexError}, (name, words, mine, theirs)
 
     def ranges(self, m, twin):
-        r, lo, hi = self.r, any_key(self.r), any_key(self.r)
+        r, lo, hi = self.r, self.any_key(), self.any_key()
         keys = self.inside(twin, lo, hi)
         vals = [twin[k] for k in keys]
         part = m[lo:hi]
         assert dict(part) == dict(zip(keys, vals)) and list(part) == keys
         assert part.sum() == m.sum(lo, hi) == min(sum(vals), TOP)
         assert m.max(lo, hi, default=None) == part.max(default=None) == max(vals, default=None)
-        assert m.items_arrays(lo, hi) == (array("Q", keys), array("Q", vals)) and m.keys_array(lo, hi) == array("Q", keys)
+        assert m.items_arrays(lo, hi) == (array(self.code, keys), array("Q", vals)) and m.keys_array(lo, hi) == array(self.code, keys)
         ends, back = (r.random() < 0.5, r.random() < 0.5), r.random() < 0.5
         assert list(m.irange(lo, hi, ends, back)) == list(twin.irange(lo, hi, ends, back))
         if r.random() < 0.3:
@@ -68,22 +73,22 @@ class Maps:
 
     def many(self, m, twin):
         r = self.r
-        keys = [key(r) for _ in range(r.randrange(150))]
+        keys = [self.key() for _ in range(r.randrange(150))]
         vals = [key(r) for _ in keys]
-        form = r.choice([list, lambda ks: array("Q", ks), lambda ks: memoryview(array("Q", ks)), iter])
+        form = r.choice([lambda code, ns: ns, array, lambda code, ns: memoryview(array(code, ns)), lambda code, ns: iter(ns)])
         what = r.randrange(4)
         if what == 0:
-            m.put_many(form(keys), form(vals))
+            m.put_many(form(self.code, keys), form("Q", vals))
             twin.update(zip(keys, vals))
         elif what == 1:
-            m.del_many(form(keys))
+            m.del_many(form(self.code, keys))
             for k in keys:
                 twin.pop(k, None)
         elif what == 2:
-            found, present = m.get_many(form(keys))
+            found, present = m.get_many(form(self.code, keys))
             assert list(found) == [twin.get(k, 0) for k in keys] and list(present) == [k in twin for k in keys]
         else:
-            m.update(r.choice([dict, list, pam.Map])(zip(keys, vals)))
+            m.update(r.choice([dict, list, self.kind])(zip(keys, vals)))
             twin.update(zip(keys, vals))
 
     def joined(self, i):
@@ -97,7 +102,7 @@ class Maps:
             lambda: (a & b, {k: x[k] for k in x if k in y}),
             lambda: (copy.copy(a), x),
             lambda: (pickle.loads(pickle.dumps(a)), x),
-            lambda: (pam.Map(a), x),
+            lambda: (self.kind(a), x),
         ])()  # fmt: skip
         self.pairs[i] = (made[0], SortedDict(made[1]))
 
@@ -252,7 +257,7 @@ def main():
     r, end, steps = random.Random(seed), time.monotonic() + seconds, 0
     try:
         while time.monotonic() < end:
-            kinds = [Maps(r), Texts(r), Seqs(r), Sets(r)]
+            kinds = [Maps(r), Maps(r, pam.SignedMap, "q", -(2**63)), Texts(r), Seqs(r), Sets(r)]
             for _ in range(500):
                 for kind in kinds:
                     kind.step()

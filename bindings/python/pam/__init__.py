@@ -9,8 +9,8 @@ and the greatest of any part at hand.
 (142, 49)
 """
 from ._intervals import Intervals
-from ._map import Map
+from ._map import Map, SignedMap
 from ._seq import Seq
 from ._text_map import TextMap
 
-__all__ = ["Intervals", "Map", "Seq", "TextMap"]
+__all__ = ["Intervals", "Map", "Seq", "SignedMap", "TextMap"]

@@ -1,23 +1,16 @@
-"""Maps from 64-bit numbers to 64-bit numbers."""
+"""Maps from 64-bit numbers, with and without a sign, to 64-bit numbers."""
 import array
 import operator
 from collections.abc import ItemsView, Iterable, Iterator, KeysView, Mapping, MutableMapping, ValuesView
-from typing import Any, Optional, Tuple, Union
+from typing import Any, Optional, Tuple, Type, TypeVar, Union
 
 from . import _library as library
-from ._arrays import LIMIT, Numbers, lent, lent_bytes, number, zeros
+from ._arrays import LIMIT, Lent, Numbers, lent, lent_bytes, moved_down, moved_up, number, zeros
 from ._library import BAD_CALL, NO_ROOM, NOT_A_MAP, NOT_THERE, OK, Held, MapHandle, Number, check, lib
 
 LAST = LIMIT - 1
 FIRST_BLOCK, LARGEST_BLOCK = 32, 4096
 _MISSING: Any = object()
-
-
-def _closed(lo: Optional[int], hi: Optional[int]) -> Optional[Tuple[int, int]]:
-    """The keys from lo up to hi as a least and a greatest key; None where no key is in between."""
-    least = 0 if lo is None else max(operator.index(lo), 0)
-    greatest = LAST if hi is None else min(operator.index(hi), LIMIT) - 1
-    return (least, greatest) if least <= greatest else None
 
 
 def _resolution(how: str) -> int:
@@ -27,29 +20,45 @@ def _resolution(how: str) -> int:
         raise ValueError(f"how is one of {', '.join(library.RESOLUTIONS)}, not {how!r}") from None
 
 
-def _two_arrays(keys: Numbers, vals: Numbers):
-    """Two arrays as four arguments."""
-    keys, vals = lent(keys), lent(vals)
-    if keys.length != vals.length:
-        raise ValueError(f"{keys.length} keys and {vals.length} values")
-    return (*keys, *vals)
+Self = TypeVar("Self", bound="NumberMap")
 
 
-class Map(Held, MutableMapping):  # type: ignore[type-arg]
-    """A sorted map of ints from 0 to 2**64 - 1, with the sum and the greatest of the values of any range of keys in O(log n).
-
-    It has the methods of dict and of sortedcontainers' SortedDict. Copies, parts and set operations share memory, and no change
-    of one map is seen in another. Costs are in the number n of entries.
-
-    >>> m = Map({3: 30, 1: 10, 2: 20})
-    >>> list(m), m[2], m.sum(1, 3)
-    ([1, 2, 3], 20, 30)
-
-    Keys of another kind than int are a TypeError. An int beyond 64 bits is no key of any map, and an OverflowError where it is to
-    be put. Parts are half-open, as ranges and slices are.
-    """
+class NumberMap(Held, MutableMapping):  # type: ignore[type-arg]
+    """What maps with signed and with unsigned keys have in common. The library's key, here the raw one, is the key plus _shift."""
 
     _Handle, _prefix = MapHandle, "pam_map_"
+    _kind: str
+    _shift: int
+    # The type code of an array of keys, and which keys there are.
+    _code: str
+    _span: str
+
+    @staticmethod
+    def _lent_keys(keys: Numbers) -> Lent:
+        """The array of the raw keys of some keys."""
+        raise NotImplementedError
+
+    @staticmethod
+    def _told_keys(raw: "array.array[int]") -> "array.array[int]":
+        """The keys of some raw ones."""
+        raise NotImplementedError
+
+    def _raw(self, key: int) -> int:
+        """The raw key of a key, OverflowError where it can be none."""
+        raw = operator.index(key) + self._shift
+        if not 0 <= raw < LIMIT:
+            raise OverflowError(f"{raw - self._shift} is not in {self._span}")
+        return raw
+
+    def _closed(self, lo: Optional[int], hi: Optional[int]) -> Optional[Tuple[int, int]]:
+        """The least and the greatest raw key of those from lo up to hi; None where no key is in between."""
+        least = 0 if lo is None else max(operator.index(lo) + self._shift, 0)
+        greatest = LAST if hi is None else min(operator.index(hi) + self._shift, LIMIT) - 1
+        return (least, greatest) if least <= greatest else None
+
+    def _alike(self, other: object) -> bool:
+        """Whether the other is a map of the same keys."""
+        return isinstance(other, NumberMap) and other._shift == self._shift
 
     def __init__(self, source: Union[Mapping, Iterable[Tuple[int, int]]] = (), /) -> None:
         """The map of a mapping or of pairs, of which a later one of a key wins. O(n log n).
@@ -57,29 +66,36 @@ class Map(Held, MutableMapping):  # type: ignore[type-arg]
         >>> Map([(1, 10), (2, 20), (1, 11)])
         Map({1: 11, 2: 20})
         """
-        if isinstance(source, Map):
-            check(lib.pam_map_share(source._ref, self._ref))
+        if self._alike(source):
+            check(lib.pam_map_share(source._ref, self._ref))  # type: ignore[union-attr]
         else:
             self._build(*self._columns(source))
 
-    @staticmethod
-    def _columns(source: Any):
-        keys, vals = array.array("Q"), array.array("Q")
+    @classmethod
+    def _columns(cls, source: Any):
+        keys, vals = array.array(cls._code), array.array("Q")
         for key, val in source.items() if isinstance(source, Mapping) else source:
             keys.append(key)
             vals.append(val)
         return keys, vals
 
     def _build(self, keys: Numbers, vals: Numbers) -> None:
-        status = lib.pam_map_build(self._ref, *_two_arrays(keys, vals))
+        status = lib.pam_map_build(self._ref, *self._two_arrays(keys, vals))
         if status == BAD_CALL:
             raise ValueError("pam: it was built before")
         check(status)
 
     # Arrays
 
+    def _two_arrays(self, keys: Numbers, vals: Numbers):
+        """Two arrays as four arguments."""
+        raw, vals = self._lent_keys(keys), lent(vals)
+        if raw.length != vals.length:
+            raise ValueError(f"{raw.length} keys and {vals.length} values")
+        return (*raw, *vals)
+
     @classmethod
-    def from_arrays(cls, keys: Numbers, vals: Numbers) -> "Map":
+    def from_arrays(cls: Type[Self], keys: Numbers, vals: Numbers) -> Self:
         """The map of two arrays of one length: array.array('Q'), NumPy's uint64, memoryviews of these, or any ints. O(n log n),
         and O(n) where the keys rise.
 
@@ -99,7 +115,7 @@ class Map(Held, MutableMapping):  # type: ignore[type-arg]
         >>> m
         Map({1: 11, 2: 20})
         """
-        check(lib.pam_map_put_many(self._ref, *_two_arrays(keys, vals)))
+        check(lib.pam_map_put_many(self._ref, *self._two_arrays(keys, vals)))
 
     def get_many(self, keys: Numbers) -> "Tuple[array.array[int], bytearray]":
         """The values at keys, 0 where one is absent, and a byte for each that is 1 where it is there. O(m log n) for m keys.
@@ -107,9 +123,9 @@ class Map(Held, MutableMapping):  # type: ignore[type-arg]
         >>> Map({1: 10, 2: 20}).get_many([2, 5])
         (array('Q', [20, 0]), bytearray(b'\\x01\\x00'))
         """
-        keys = lent(keys)
-        vals, present = zeros(keys.length), bytearray(keys.length)
-        check(lib.pam_map_get_many(self._ref, *keys, *lent(vals), *lent_bytes(present)))
+        raw = self._lent_keys(keys)
+        vals, present = zeros(raw.length), bytearray(raw.length)
+        check(lib.pam_map_get_many(self._ref, *raw, *lent(vals), *lent_bytes(present)))
         return vals, present
 
     def del_many(self, keys: Numbers) -> None:
@@ -120,7 +136,7 @@ class Map(Held, MutableMapping):  # type: ignore[type-arg]
         >>> m
         Map({2: 20})
         """
-        check(lib.pam_map_del_many(self._ref, *lent(keys)))
+        check(lib.pam_map_del_many(self._ref, *self._lent_keys(keys)))
 
     def items_arrays(self, lo: Optional[int] = None, hi: Optional[int] = None) -> "Tuple[array.array[int], array.array[int]]":
         """The keys from lo up to hi and their values, as two arrays in the order of keys. O(log n + m) for m entries.
@@ -128,10 +144,8 @@ class Map(Held, MutableMapping):  # type: ignore[type-arg]
         >>> Map({1: 10, 2: 20, 3: 30}).items_arrays(2)
         (array('Q', [2, 3]), array('Q', [20, 30]))
         """
-        ends = _closed(lo, hi)
-        if ends is None:
-            return self._filled(0, 0)
-        return self._filled(ends[0], self.bisect_right(ends[1]) - self._rank(ends[0]))
+        ends = self._closed(lo, hi)
+        return self._filled(ends[0], self._rank_past(ends[1]) - self._rank(ends[0])) if ends else self._filled(0, 0)
 
     def keys_array(self, lo: Optional[int] = None, hi: Optional[int] = None) -> "array.array[int]":
         """The keys from lo up to hi, in order. O(log n + m) for m of them.
@@ -142,17 +156,17 @@ class Map(Held, MutableMapping):  # type: ignore[type-arg]
         return self.items_arrays(lo, hi)[0]
 
     def _filled(self, first: int, count: int):
-        """The first entries with keys at least first, which has to have so many."""
-        keys, vals, found = zeros(count), zeros(count), Number()
-        check(lib.pam_map_fill(self._ref, first, *lent(keys), *lent(vals), found))
-        return keys, vals
+        """The first entries from a raw key on, of which there have to be so many."""
+        raw, vals, found = zeros(count), zeros(count), Number()
+        check(lib.pam_map_fill(self._ref, first, *lent(raw), *lent(vals), found))
+        return self._told_keys(raw), vals
 
     # Single entries
 
     def _find(self, key: int) -> Optional[int]:
-        key = operator.index(key)
+        raw = operator.index(key) + self._shift
         val = Number()
-        status = lib.pam_map_get(self._ref, key, val) if 0 <= key < LIMIT else NOT_THERE
+        status = lib.pam_map_get(self._ref, raw, val) if 0 <= raw < LIMIT else NOT_THERE
         if status == OK:
             return val.value
         if status != NOT_THERE:
@@ -183,7 +197,7 @@ class Map(Held, MutableMapping):  # type: ignore[type-arg]
 
     def __setitem__(self, key: int, val: int) -> None:
         """Sets a key to a value. O(log n)."""
-        status = lib.pam_map_put(self._ref, number(key), number(val))
+        status = lib.pam_map_put(self._ref, self._raw(key), number(val))
         if status:
             check(status)
 
@@ -198,8 +212,8 @@ class Map(Held, MutableMapping):  # type: ignore[type-arg]
         if isinstance(key, slice):
             self._cut(key)
             return
-        found = operator.index(key)
-        status = lib.pam_map_del(self._ref, found) if 0 <= found < LIMIT else NOT_THERE
+        raw = operator.index(key) + self._shift
+        status = lib.pam_map_del(self._ref, raw) if 0 <= raw < LIMIT else NOT_THERE
         if status == NOT_THERE:
             raise KeyError(key)
         check(status)
@@ -212,8 +226,8 @@ class Map(Held, MutableMapping):  # type: ignore[type-arg]
         >>> m
         Map({1: 11, 2: 20})
         """
-        if isinstance(other, Map):
-            self._take_over(self.union(other))
+        if self._alike(other):
+            self._take_over(self.union(other))  # type: ignore[arg-type]
         else:
             self.put_many(*self._columns(other))
 
@@ -241,7 +255,7 @@ class Map(Held, MutableMapping):  # type: ignore[type-arg]
     def _select(self, place: int) -> Tuple[int, int]:
         key, val = Number(), Number()
         check(lib.pam_map_select(self._ref, place, key, val))
-        return key.value, val.value
+        return key.value - self._shift, val.value
 
     def popitem(self, index: int = -1) -> Tuple[int, int]:
         """Removes and answers the entry at a place, the last one if none is named; KeyError where the map is empty. O(log n).
@@ -263,10 +277,8 @@ class Map(Held, MutableMapping):  # type: ignore[type-arg]
         >>> m.bisect_left(3), m.bisect_right(3), m.bisect(2)
         (1, 2, 1)
         """
-        key = operator.index(key)
-        if key >= LIMIT:
-            return len(self)
-        return self._rank(max(key, 0))
+        raw = operator.index(key) + self._shift
+        return len(self) if raw >= LIMIT else self._rank(max(raw, 0))
 
     def bisect_right(self, key: int) -> int:
         """How many keys are at most a key. O(log n)."""
@@ -274,10 +286,15 @@ class Map(Held, MutableMapping):  # type: ignore[type-arg]
 
     bisect = bisect_right
 
-    def _rank(self, key: int) -> int:
+    def _rank(self, raw: int) -> int:
+        """How many raw keys are less than this one."""
         place = Number()
-        check(lib.pam_map_rank(self._ref, key, place))
+        check(lib.pam_map_rank(self._ref, raw, place))
         return place.value
+
+    def _rank_past(self, raw: int) -> int:
+        """How many raw keys are at most this one."""
+        return len(self) if raw == LAST else self._rank(raw + 1)
 
     def next_item(self, key: int) -> Optional[Tuple[int, int]]:
         """The entry with the least key that is greater, if there is one. O(log n).
@@ -301,7 +318,7 @@ class Map(Held, MutableMapping):  # type: ignore[type-arg]
         if lo is None and hi is None:
             check(lib.pam_map_fold(self._ref, total, greatest))
             return total.value, greatest.value
-        ends = _closed(lo, hi)
+        ends = self._closed(lo, hi)
         # A range with no keys is asked as one that none is in, so that a closed map is found.
         check(lib.pam_map_fold_range(self._ref, *(ends or (1, 0)), total, greatest))
         return total.value, greatest.value
@@ -329,27 +346,31 @@ class Map(Held, MutableMapping):  # type: ignore[type-arg]
         return default
 
     def _any(self, lo: Optional[int], hi: Optional[int]) -> bool:
-        ends = _closed(lo, hi)
-        return ends is not None and self._rank(ends[0]) < self.bisect_right(ends[1])
+        ends = self._closed(lo, hi)
+        return ends is not None and self._rank(ends[0]) < self._rank_past(ends[1])
 
     # Parts and set operations
 
-    def _part(self, part: slice) -> "Map":
+    def _ends(self, part: slice) -> Optional[Tuple[int, int]]:
         if part.step is not None:
             raise ValueError("a slice of a map has no step")
-        ends = _closed(part.start, part.stop)
+        return self._closed(part.start, part.stop)
+
+    def _part(self: Self, part: slice) -> Self:
+        return self._between(*(self._ends(part) or (1, 0)))
+
+    def _between(self: Self, least: int, greatest: int) -> Self:
+        """The map of the entries from one raw key to another, both included."""
         out = self._empty()
-        check(lib.pam_map_range(self._ref, *(ends or (1, 0)), out._ref))
+        check(lib.pam_map_range(self._ref, *((least, greatest) if least <= greatest else (1, 0)), out._ref))
         return out
 
     def _cut(self, part: slice) -> None:
-        if part.step is not None:
-            raise ValueError("a slice of a map has no step")
-        ends = _closed(part.start, part.stop)
+        ends = self._ends(part)
         if ends is not None:
-            self._take_over(self[: ends[0]].union(self[ends[1] + 1 :]))
+            self._take_over(self._between(0, ends[0] - 1).union(self._between(ends[1] + 1, LAST)))
 
-    def split(self, key: int) -> Tuple["Map", "Map"]:
+    def split(self: Self, key: int) -> Tuple[Self, Self]:
         """The map of the entries with lesser keys, and that of the others. O(log n).
 
         >>> Map({1: 10, 2: 20, 3: 30}).split(2)
@@ -357,7 +378,7 @@ class Map(Held, MutableMapping):  # type: ignore[type-arg]
         """
         return self[:key], self[key:]
 
-    def union(self, other: "Map", how: str = "second") -> "Map":
+    def union(self: Self, other: Self, how: str = "second") -> Self:
         """The entries of either map. At a key of both `how` says which value: that of the `first`, of the `second` (as dict's
         `|`), their `sum` (at most 2**64 - 1) or the greater, `max`. O(m log(n / m + 1)) for m and n entries, m at most n.
 
@@ -367,7 +388,7 @@ class Map(Held, MutableMapping):  # type: ignore[type-arg]
         """
         return self._joined(lib.pam_map_union, other, _resolution(how))
 
-    def intersection(self, other: "Map", how: str = "first") -> "Map":
+    def intersection(self: Self, other: Self, how: str = "first") -> Self:
         """The entries whose keys both maps have, with the value that `how` says, in the time of union. `a & b` has a's values.
 
         >>> Map({1: 10, 2: 20}).intersection(Map({2: 5, 3: 30}))
@@ -375,7 +396,7 @@ class Map(Held, MutableMapping):  # type: ignore[type-arg]
         """
         return self._joined(lib.pam_map_intersection, other, _resolution(how))
 
-    def difference(self, other: "Map") -> "Map":
+    def difference(self: Self, other: Self) -> Self:
         """The entries whose keys the other map hasn't, in the time of union. `a - b` is the same.
 
         >>> Map({1: 10, 2: 20}) - Map({2: 5})
@@ -383,36 +404,36 @@ class Map(Held, MutableMapping):  # type: ignore[type-arg]
         """
         return self._joined(lib.pam_map_difference, other)
 
-    def _joined(self, call: Any, other: "Map", *how: int) -> "Map":
-        if not isinstance(other, Map):
-            raise TypeError(f"wanted a Map, not {type(other).__name__}")
+    def _joined(self: Self, call: Any, other: Self, *how: int) -> Self:
+        if not self._alike(other):
+            raise TypeError(f"wanted a {self._kind}, not {type(other).__name__}")
         out = self._empty()
         check(call(self._ref, other._ref, *how, out._ref))
         return out
 
-    def __or__(self, other: "Map") -> "Map":
-        return self.union(other) if isinstance(other, Map) else NotImplemented
+    def __or__(self: Self, other: Self) -> Self:
+        return self.union(other) if self._alike(other) else NotImplemented
 
-    def __and__(self, other: "Map") -> "Map":
-        return self.intersection(other) if isinstance(other, Map) else NotImplemented
+    def __and__(self: Self, other: Self) -> Self:
+        return self.intersection(other) if self._alike(other) else NotImplemented
 
-    def __sub__(self, other: "Map") -> "Map":
-        return self.difference(other) if isinstance(other, Map) else NotImplemented
+    def __sub__(self: Self, other: Self) -> Self:
+        return self.difference(other) if self._alike(other) else NotImplemented
 
-    def __ior__(self, other: Any) -> "Map":  # type: ignore[misc]
+    def __ior__(self: Self, other: Any) -> Self:  # type: ignore[misc]
         self.update(other)
         return self
 
     # Walks, each over a snapshot: the map may be changed meanwhile, and the walk does not see it
 
     def _blocks(self, least: int, greatest: int, backwards: bool = False):
-        """Arrays of keys and values, from the least to the greatest key, in blocks that grow."""
-        start, stop, most = self._rank(least), self.bisect_right(greatest), FIRST_BLOCK
+        """Arrays of keys and values, from the least to the greatest raw key, in blocks that grow."""
+        start, stop, most = self._rank(least), self._rank_past(greatest), FIRST_BLOCK
         while start < stop:
             count = min(most, stop - start)
             if backwards:
                 stop -= count
-            keys, vals = self._filled(self._select(stop if backwards else start)[0], count)
+            keys, vals = self._filled(self._select(stop if backwards else start)[0] + self._shift, count)
             if backwards:
                 keys.reverse()
                 vals.reverse()
@@ -456,7 +477,7 @@ class Map(Held, MutableMapping):  # type: ignore[type-arg]
         """
         lo = None if minimum is None else operator.index(minimum) + (not inclusive[0])
         hi = None if maximum is None else operator.index(maximum) + bool(inclusive[1])
-        ends = _closed(lo, hi)
+        ends = self._closed(lo, hi)
         return self._walk(0, *ends, backwards=reverse) if ends else iter(())
 
     # Bytes, and what is compared and shown
@@ -478,7 +499,7 @@ class Map(Held, MutableMapping):  # type: ignore[type-arg]
             room = needed.value
 
     @classmethod
-    def from_bytes(cls, data: Any) -> "Map":
+    def from_bytes(cls: Type[Self], data: Any) -> Self:
         """The map of bytes that to_bytes wrote; ValueError for any others. O(n)."""
         out = cls._empty()
         status = lib.pam_map_from_bytes(out._ref, *lent_bytes(data))
@@ -491,7 +512,7 @@ class Map(Held, MutableMapping):  # type: ignore[type-arg]
         return type(self).from_bytes, (self.to_bytes(),)
 
     def __eq__(self, other: Any) -> Any:
-        if not isinstance(other, Map):
+        if not self._alike(other):
             return dict(self.items()) == dict(other.items()) if isinstance(other, Mapping) else NotImplemented
         if len(self) != len(other):
             return False
@@ -508,14 +529,14 @@ class Map(Held, MutableMapping):  # type: ignore[type-arg]
 
 
 class _Keys(KeysView):  # type: ignore[type-arg]
-    _mapping: Map
+    _mapping: NumberMap
 
     def __reversed__(self) -> Iterator[int]:
         return reversed(self._mapping)
 
 
 class _Values(ValuesView):  # type: ignore[type-arg]
-    _mapping: Map
+    _mapping: NumberMap
 
     def __iter__(self) -> Iterator[int]:
         return self._mapping._walk(1)
@@ -528,7 +549,7 @@ class _Values(ValuesView):  # type: ignore[type-arg]
 
 
 class _Items(ItemsView):  # type: ignore[type-arg]
-    _mapping: Map
+    _mapping: NumberMap
 
     def __iter__(self) -> Iterator[Tuple[int, int]]:
         blocks = self._mapping.copy()._blocks(0, LAST)
@@ -537,3 +558,48 @@ class _Items(ItemsView):  # type: ignore[type-arg]
     def __reversed__(self) -> Iterator[Tuple[int, int]]:
         blocks = self._mapping.copy()._blocks(0, LAST, backwards=True)
         return (entry for keys, vals in blocks for entry in zip(keys, vals))
+
+
+class Map(NumberMap):
+    """A sorted map of ints from 0 to 2**64 - 1, with the sum and the greatest of the values of any range of keys in O(log n).
+
+    It has the methods of dict and of sortedcontainers' SortedDict. Copies, parts and set operations share memory, and no change
+    of one map is seen in another. Costs are in the number n of entries.
+
+    >>> m = Map({3: 30, 1: 10, 2: 20})
+    >>> list(m), m[2], m.sum(1, 3)
+    ([1, 2, 3], 20, 30)
+
+    Keys of another kind than int are a TypeError. An int beyond 64 bits is no key of any map, and an OverflowError where it is to
+    be put. Parts are half-open, as ranges and slices are.
+    """
+
+    _kind, _shift, _code, _span = "Map", 0, "Q", "0 to 2**64 - 1"
+    _lent_keys = staticmethod(lent)
+
+    @staticmethod
+    def _told_keys(raw: "array.array[int]") -> "array.array[int]":
+        return raw
+
+
+class SignedMap(NumberMap):
+    """A sorted map of ints from -2**63 to 2**63 - 1 to ints from 0 to 2**64 - 1: a Map in which the keys are moved up by 2**63, with
+    its methods and costs.
+
+    >>> m = SignedMap({-3: 30, 1: 10, -2**63: 20})
+    >>> list(m), m[-3], m.sum(-3, 2), m[:0]
+    ([-9223372036854775808, -3, 1], 30, 40, SignedMap({-9223372036854775808: 20, -3: 30}))
+
+    Arrays of keys are of signed numbers, as array.array('q') and NumPy's int64, and are copied. The bytes are those of the Map with the
+    moved keys, and say nothing of signs.
+
+    >>> m.keys_array(-5)
+    array('q', [-3, 1])
+    """
+
+    _kind, _shift, _code, _span = "SignedMap", LIMIT // 2, "q", "-2**63 to 2**63 - 1"
+    _told_keys = staticmethod(moved_down)
+
+    @staticmethod
+    def _lent_keys(keys: Numbers) -> Lent:
+        return lent(moved_up(keys))

@@ -170,6 +170,95 @@ class Maps(unittest.TestCase):
         self.assertEqual(repr(pam.Map((k, 0) for k in range(11))), "Map({0: 0, 1: 0, 2: 0, 3: 0, 4: 0, 5: 0, 6: 0, 7: 0, 8: 0, 9: 0, ...})")
 
 
+LEAST, GREATEST = -(2**63), 2**63 - 1
+
+
+class SignedMaps(unittest.TestCase):
+    def setUp(self):
+        self.map = pam.SignedMap({-3: 30, 1: 10, LEAST: 5, GREATEST: 7})
+
+    def test_entries(self):
+        m = self.map
+        self.assertEqual((list(m), m[-3], m.get(-1), len(m), LEAST in m, 0 in m), ([LEAST, -3, 1, GREATEST], 30, None, 4, True, False))
+        m[0] = 20
+        del m[1]
+        self.assertEqual((m.pop(-3), m.setdefault(-4, 1), dict(m)), (30, 1, {LEAST: 5, -4: 1, 0: 20, GREATEST: 7}))
+        m.clear()
+        self.assertFalse(m)
+
+    def test_keys_that_are_none(self):
+        for key in (LEAST - 1, GREATEST + 1, 2**70):
+            self.assertRaises(KeyError, self.map.__getitem__, key)
+            self.assertRaises(KeyError, self.map.__delitem__, key)
+            self.assertNotIn(key, self.map)
+            self.assertRaisesRegex(OverflowError, str(key), self.map.__setitem__, key, 1)
+            self.assertRaises(OverflowError, self.map.put_many, [key], [1])
+            self.assertRaises(OverflowError, pam.SignedMap, {key: 1})
+        self.assertRaises(OverflowError, self.map.__setitem__, 1, -1)
+        for key in ("1", 1.0, None):
+            for call in (self.map.__getitem__, self.map.__contains__, self.map.__delitem__, self.map.bisect):
+                self.assertRaises(TypeError, call, key)
+            self.assertRaises(TypeError, self.map.__setitem__, key, 1)
+        self.assertEqual(len(self.map), 4)
+
+    def test_order(self):
+        m = self.map
+        self.assertEqual((m.peekitem(), m.peekitem(0), m.next_item(-3), m.prev_item(LEAST), m.prev_item(0)), ((GREATEST, 7), (LEAST, 5), (1, 10), None, (-3, 30)))
+        self.assertEqual((m.bisect_left(-3), m.bisect_right(-3), m.bisect(LEAST - 1), m.bisect(GREATEST), m.bisect(2**70)), (1, 2, 0, 4, 4))
+        self.assertEqual((list(m.irange(-3, 1)), list(m.irange(maximum=-3, reverse=True)), list(reversed(m))), ([-3, 1], [-3, LEAST], list(m)[::-1]))
+        self.assertEqual((m.popitem(), m.popitem(0)), ((GREATEST, 7), (LEAST, 5)))
+
+    def test_parts(self):
+        m = self.map
+        self.assertEqual((m[-3:1], m[:0], m[2:], m[:LEAST], m[9:-9]), ({-3: 30}, {LEAST: 5, -3: 30}, {GREATEST: 7}, {}, {}))
+        self.assertEqual((m.sum(), m.sum(-3, 2), m.max(0), m[:0].max(), m.sum(0, -1)), (52, 40, 10, 30, 0))
+        below, rest = m.split(0)
+        self.assertEqual((list(below), list(rest)), ([LEAST, -3], [1, GREATEST]))
+        del m[-3:1]
+        self.assertEqual(list(m), [LEAST, 1, GREATEST])
+        del m[:]
+        self.assertEqual(len(m), 0)
+
+    def test_arrays(self):
+        keys, vals = [3, -1, 3, LEAST], [1, 2, 3, 4]
+        frozen = numpy.array(keys, dtype=numpy.int64)
+        frozen.flags.writeable = False
+        for form in (keys, array("q", keys), memoryview(array("q", keys)), frozen, numpy.array([3, 0, -1, 0, 3, 0, LEAST], dtype=numpy.int64)[::2]):
+            m = pam.SignedMap.from_arrays(form, vals)
+            self.assertEqual(dict(m), {LEAST: 4, -1: 2, 3: 3})
+            self.assertEqual(m.get_many(form), (array("Q", [3, 2, 3, 4]), bytearray([1, 1, 1, 1])))
+            self.assertEqual(m.items_arrays(-1), (array("q", [-1, 3]), array("Q", [2, 3])))
+            m.del_many(form)
+            self.assertEqual((len(m), m.keys_array()), (0, array("q")))
+        self.assertEqual(keys, [3, -1, 3, LEAST])
+        for wrong in (array("Q", [1]), numpy.array([1], dtype=numpy.uint64), b"12345678", [1.5], 7):
+            self.assertRaises(TypeError, m.put_many, wrong, [1])
+        self.assertRaises(ValueError, m.put_many, [1, 2], [1])
+
+    def test_two_maps(self):
+        a, b = pam.SignedMap({-1: 10, 2: 20}), pam.SignedMap({2: 5})
+        self.assertEqual((a | b, a & b, a - b, a.union(b, "sum")), ({-1: 10, 2: 5}, {2: 20}, {-1: 10}, {-1: 10, 2: 25}))
+        for other in (pam.Map({2: 5}), {2: 5}):
+            self.assertRaises(TypeError, a.union, other)
+            self.assertRaises(TypeError, lambda: a | other)
+        a.update(pam.Map({7: 70}))
+        self.assertEqual((a == {-1: 10, 2: 20, 7: 70}, a == pam.SignedMap(a), a == b, b == pam.Map({2: 5})), (True, True, False, True))
+        self.assertEqual(pam.Map(b), {2: 5})
+
+    def test_bytes_and_snapshots(self):
+        m = pam.SignedMap((k * k * (-1) ** k, k) for k in range(5000))
+        kept = m.copy()
+        for key in m:
+            m[key] = 0
+        self.assertEqual((kept, type(copy.copy(kept))), (pickle.loads(pickle.dumps(kept)), pam.SignedMap))
+        self.assertEqual(list(kept.items())[:2], [(-4999 * 4999, 4999), (-4997 * 4997, 4997)])
+        moved = pam.Map((k + 2**63, v) for k, v in kept.items())
+        self.assertEqual((kept.to_bytes(), pam.SignedMap.from_bytes(moved.to_bytes())), (moved.to_bytes(), kept))
+        self.assertEqual((repr(pam.SignedMap({-1: 2})), repr(kept[:0])[:30]), ("SignedMap({-1: 2})", "SignedMap({-24990001: 4999, -2"))
+        kept.close()
+        self.assertRaises(ValueError, len, kept)
+
+
 class TextMaps(unittest.TestCase):
     def setUp(self):
         self.map = pam.TextMap({"": 5, "bar": 10, "foo": 30})

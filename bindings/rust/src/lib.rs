@@ -24,11 +24,13 @@ mod intervals;
 mod map;
 mod raw;
 mod seq;
+mod signed_map;
 mod text_map;
 
 pub use intervals::{IntervalIter, Intervals};
 pub use map::{Iter, Map, Resolve};
 pub use seq::{SeqIter, Seq};
+pub use signed_map::{SignedIter, SignedMap};
 pub use text_map::{TextIter, TextMap};
 
 use std::fmt;

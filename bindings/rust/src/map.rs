@@ -181,6 +181,21 @@ impl Map {
         rank
     }
 
+    /// How many keys are in a range. O(log n).
+    ///
+    /// ```
+    /// # use pam::Map;
+    /// assert_eq!(Map::from([(1, 10), (2, 20), (3, 30)]).count(2..), 2);
+    /// ```
+    pub fn count(&self, range: impl RangeBounds<u64>) -> u64 {
+        let mut count = 0;
+        if let Some((lo, hi)) = closed(&range) {
+            // SAFETY: an open handle.
+            sure(unsafe { raw::pam_map_count(self.0.as_ptr(), lo, hi, &mut count) });
+        }
+        count
+    }
+
     /// The sum and the greatest of all values. O(1).
     pub fn fold(&self) -> Fold {
         let mut fold = Fold::default();

@@ -75,6 +75,8 @@ fn places(rt: HostRuntime) {
     let mut map = three(&rt, alloc);
     let mut key = 0;
     let mut val = 0;
+    assert_eq!(rt; map_handle::count(alloc, &mut map, 1, 4, &mut key), OK);
+    assert_eq!(rt; key, 2);
     assert_eq!(rt; map_handle::rank(alloc, &mut map, 4, &mut key), OK);
     assert_eq!(rt; key, 2);
     assert_eq!(rt;

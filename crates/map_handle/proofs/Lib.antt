@@ -1,4 +1,5 @@
 pub mod Combined
+mod Counted
 pub mod Found
 pub mod Laying
 mod Values

@@ -29,4 +29,4 @@ pub use handle::{Handle, closed, free, new};
 pub use how::{How, how_of};
 pub use making::{difference, range, share, split};
 pub use points::{del, get, put};
-pub use reading::{first, fold, fold_range, last, len, next, prev, rank, select};
+pub use reading::{count, first, fold, fold_range, last, len, next, prev, rank, select};

@@ -4,7 +4,7 @@ ghost use Rattle.std.specs.Option.{option_map};
 ghost use Rattle.std.specs.Ordering.{nat_cmp};
 ghost use Rattle.aug_monoid.specs.Totals.{totals};
 ghost use Rattle.map_handle.specs.Folds.{range_totals, totals_of};
-ghost use Rattle.map_model.specs.Parts.{next, prev, rank, select};
+ghost use Rattle.map_model.specs.Parts.{next, prev, rank, select, slice};
 ghost use Rattle.ord_map.specs.Ends.{last};
 ghost use Rattle.loose.specs.Statuses.{Answers, Written};
 
@@ -98,6 +98,28 @@ pub fn rank(alloc: Global, map: &mut Handle, key: u64, count: &mut u64) -> u8
     *count = kept.map.rank(&key);
     keep(map, kept);
     OK
+}
+
+/// How many entries have keys from `lo` to `hi`, both included, in O(log n).
+pub fn count(alloc: Global, map: &mut Handle, lo: u64, hi: u64, count: &mut u64) -> u8
+    ensures answer { Answers (option_map (λ m. Some (length (slice nat_cmp m lo hi))) map.old.entries) result count.old count.new }
+    ensures same { map.new.entries ≡ map.old.entries }
+{
+    let Some(kept) = take(alloc, map) else {
+        return BAD_CALL;
+    };
+    *count = count_within(&kept, lo, hi);
+    keep(map, kept);
+    OK
+}
+
+fn count_within(kept: &Inner, lo: u64, hi: u64) -> u64
+    ensures { result ≡ length (slice nat_cmp kept.now lo hi) }
+{
+    if lo > hi {
+        return 0;
+    }
+    kept.map.count_to(&hi) - kept.map.rank(&lo)
 }
 
 /// The entry at a place, counted from 0, in O(log n).

@@ -112,6 +112,21 @@ pub extern "C" fn pam_x_map_fold_range(
     map_handle::fold_range(alloc, map, lo, hi, sum, greatest)
 }
 
+/// How many entries have keys from `lo` to `hi`, both included, in O(log n).
+#[unsafe(no_mangle)]
+pub extern "C" fn pam_x_map_count(
+    alloc: Global,
+    map: &mut Handle,
+    lo: u64,
+    hi: u64,
+    count: &mut u64,
+) -> u8
+    ensures answer { Answers (option_map (λ m. Some (length (slice nat_cmp m lo hi))) map.old.entries) result count.old count.new }
+    ensures same { map.new.entries ≡ map.old.entries }
+{
+    map_handle::count(alloc, map, lo, hi, count)
+}
+
 /// How many keys are less than `key`, in O(log n).
 #[unsafe(no_mangle)]
 pub extern "C" fn pam_x_map_rank(alloc: Global, map: &mut Handle, key: u64, count: &mut u64) -> u8
