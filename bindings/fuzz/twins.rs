@@ -1,6 +1,6 @@
 //! Random calls of the crate pam, each also done to a `BTreeMap`, a `Vec` or a `BTreeSet`, and compared. `PAM_FUZZ_SEED` and
 //! `PAM_FUZZ_SECONDS` say with which numbers, and for how long each test goes on; 1 and 1 if they don't.
-use pam::{Fold, FromBytesError, Intervals, Map, NoMemory, Resolve, Seq, TextMap};
+use pam::{Fold, FromBytesError, Intervals, Map, NoMemory, Resolve, Seq, SignedMap, TextMap};
 use std::collections::{BTreeMap, BTreeSet};
 use std::env;
 use std::ops::{Bound, RangeInclusive};
@@ -36,6 +36,12 @@ impl Random {
             2 => self.number(),
             _ => self.below(600) << (self.below(2) * 20),
         }
+    }
+
+    /// As `key`, with either sign.
+    fn signed(&mut self) -> i64 {
+        let key = self.key() as i64;
+        if self.below(2) == 0 { key } else { !key }
     }
 
     /// Few letters, so that keys meet; now and then the key of no bytes, and a long one.
@@ -115,6 +121,9 @@ fn parts(map: &mut Map, twin: &mut Twin, r: &mut Random) -> Result<(), NoMemory>
     assert_eq!(map.range(lo..=hi).len(), inside().count());
     assert_eq!(map.fold_range(lo..=hi), fold(inside().map(|(_, val)| val)));
     assert_eq!(map.fold(), fold(twin.values().copied()));
+    let count = inside().count();
+    assert_eq!(map.count(lo..=hi), count as u64);
+    assert_eq!(map.mean_range(lo..=hi), (count > 0).then(|| fold(inside().map(|(_, val)| val)).sum as f64 / count as f64));
     assert!(map.part(lo..=hi)?.iter().eq(inside()));
     // From both ends in turn, until they meet.
     let (mut mine, mut theirs) = (map.range(lo..), twin.range(lo..));
@@ -188,6 +197,68 @@ fn maps_are_as_btree_maps() -> Result<(), NoMemory> {
             3 => parts(&mut pairs[a].0, &mut pairs[a].1, r)?,
             4 => assert_eq!(pairs[a].0 == pairs[b].0, pairs[a].1 == pairs[b].1),
             _ => single(&mut pairs[a].0, &mut pairs[a].1, r)?,
+        }
+        Ok(())
+    })
+}
+
+type SignedTwin = BTreeMap<i64, u64>;
+
+fn same_signed(map: &SignedMap, twin: &SignedTwin) {
+    assert_eq!(map.len(), twin.len());
+    assert!(map.iter().eq(twin.iter().map(|(&key, &val)| (key, val))));
+    assert!(map.iter().rev().eq(twin.iter().rev().map(|(&key, &val)| (key, val))));
+}
+
+fn signed_parts(map: &mut SignedMap, twin: &mut SignedTwin, r: &mut Random) -> Result<(), NoMemory> {
+    let (a, b) = (r.signed(), r.signed());
+    let (lo, hi) = (a.min(b), a.max(b));
+    let inside = || twin.range(lo..=hi).map(|(&key, &val)| (key, val));
+    assert!(map.range(lo..=hi).eq(inside()) && map.part(lo..=hi)?.iter().eq(inside()));
+    assert!(map.range(..hi).rev().eq(twin.range(..hi).rev().map(|(&key, &val)| (key, val))));
+    assert_eq!(map.fold_range(lo..=hi), fold(inside().map(|(_, val)| val)));
+    assert_eq!(map.count(lo..=hi), inside().count() as u64);
+    let rest = map.split_off(lo)?;
+    same_signed(&rest, &twin.split_off(&lo));
+    same_signed(map, twin);
+    assert_eq!(SignedMap::from_bytes(&rest.to_bytes()?).as_ref(), Ok(&rest));
+    twin.extend(&rest);
+    *map = map.union(&rest, Resolve::First)?;
+    Ok(())
+}
+
+#[test]
+fn signed_maps_are_as_btree_maps() -> Result<(), NoMemory> {
+    let pair = |(key, val): (&i64, &u64)| (*key, *val);
+    steps(|| Ok((SignedMap::new()?, SignedTwin::new())), |(map, twin), r| {
+        let (key, val) = (r.signed(), r.number());
+        match r.below(40) {
+            0 => {
+                let pairs: Vec<(i64, u64)> = (0..r.below(300)).map(|_| (r.signed(), r.number())).collect();
+                map.extend(pairs.iter().copied());
+                twin.extend(pairs);
+                same_signed(map, twin);
+            }
+            1 => {
+                let keys: Vec<i64> = (0..r.below(200)).map(|_| r.signed()).collect();
+                assert_eq!(map.get_many(&keys), keys.iter().map(|key| twin.get(key).copied()).collect::<Vec<_>>());
+                map.remove_many(&keys)?;
+                twin.retain(|key, _| !keys.contains(key));
+            }
+            2 => signed_parts(map, twin, r)?,
+            3..=8 => assert_eq!(map.remove(key)?, twin.remove(&key).is_some()),
+            9..=12 => {
+                assert_eq!((map.get(key), map.rank(key)), (twin.get(&key).copied(), twin.range(..key).count() as u64));
+                assert_eq!(map.prev(key), twin.range(..key).next_back().map(pair));
+                assert_eq!(map.next(key), twin.range((Bound::Excluded(key), Bound::Unbounded)).next().map(pair));
+                assert_eq!((map.first_key_value(), map.last_key_value()), (twin.first_key_value().map(pair), twin.last_key_value().map(pair)));
+                let place = r.below(twin.len() as u64 + 2);
+                assert_eq!(map.select(place), twin.iter().nth(place as usize).map(pair));
+            }
+            _ => {
+                map.insert(key, val)?;
+                twin.insert(key, val);
+            }
         }
         Ok(())
     })

@@ -1,5 +1,5 @@
-"""Persistent ordered maps, sequences and interval sets of 64-bit numbers, and maps from byte strings to such numbers, with the sum
-and the greatest of any part at hand.
+"""Persistent ordered maps, sequences and interval sets of 64-bit numbers, and maps from signed keys and from byte strings to such
+numbers, with the sum and the greatest of any part at hand.
 
 >>> import pam
 >>> sales = pam.Map({540: 12, 541: 7, 545: 30})

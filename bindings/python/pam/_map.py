@@ -20,6 +20,13 @@ def _resolution(how: str) -> int:
         raise ValueError(f"how is one of {', '.join(library.RESOLUTIONS)}, not {how!r}") from None
 
 
+def _of_none(name: str, default: Any) -> Any:
+    """What a call answers of no entries."""
+    if default is _MISSING:
+        raise ValueError(f"{name}() of a part with no entries")
+    return default
+
+
 Self = TypeVar("Self", bound="NumberMap")
 
 
@@ -145,7 +152,7 @@ class NumberMap(Held, MutableMapping):  # type: ignore[type-arg]
         (array('Q', [2, 3]), array('Q', [20, 30]))
         """
         ends = self._closed(lo, hi)
-        return self._filled(ends[0], self._rank_past(ends[1]) - self._rank(ends[0])) if ends else self._filled(0, 0)
+        return self._filled(ends[0], self.count(lo, hi)) if ends else self._filled(0, 0)
 
     def keys_array(self, lo: Optional[int] = None, hi: Optional[int] = None) -> "array.array[int]":
         """The keys from lo up to hi, in order. O(log n + m) for m of them.
@@ -296,6 +303,17 @@ class NumberMap(Held, MutableMapping):  # type: ignore[type-arg]
         """How many raw keys are at most this one."""
         return len(self) if raw == LAST else self._rank(raw + 1)
 
+    def count(self, lo: Optional[int] = None, hi: Optional[int] = None) -> int:
+        """How many keys are from lo up to hi. O(log n).
+
+        >>> Map({1: 10, 2: 20, 3: 30}).count(2)
+        2
+        """
+        found = Number()
+        # A range with no keys is asked as one that none is in, so that a closed map is found.
+        check(lib.pam_map_count(self._ref, *(self._closed(lo, hi) or (1, 0)), found))
+        return found.value
+
     def next_item(self, key: int) -> Optional[Tuple[int, int]]:
         """The entry with the least key that is greater, if there is one. O(log n).
 
@@ -339,15 +357,18 @@ class NumberMap(Held, MutableMapping):  # type: ignore[type-arg]
         (20, 5, 0)
         """
         greatest = self._fold(lo, hi)[1]
-        if greatest or self._any(lo, hi):
-            return greatest
-        if default is _MISSING:
-            raise ValueError("max() of a part with no entries")
-        return default
+        return greatest if greatest or self.count(lo, hi) else _of_none("max", default)
 
-    def _any(self, lo: Optional[int], hi: Optional[int]) -> bool:
-        ends = self._closed(lo, hi)
-        return ends is not None and self._rank(ends[0]) < self._rank_past(ends[1])
+    def mean(self, lo: Optional[int] = None, hi: Optional[int] = None, *, default: Any = _MISSING) -> Any:
+        """The mean of the values at keys from lo up to hi, their sum by their number; where there are none the default, or
+        ValueError. Where the sum stays at 2**64 - 1, the mean is too small. O(log n).
+
+        >>> m = Map({1: 10, 2: 20, 3: 5})
+        >>> m[:3].mean(), m.mean(2), m.mean(7, default=None)
+        (15.0, 12.5, None)
+        """
+        count = self.count(lo, hi)
+        return self.sum(lo, hi) / count if count else _of_none("mean", default)
 
     # Parts and set operations
 
@@ -561,7 +582,7 @@ class _Items(ItemsView):  # type: ignore[type-arg]
 
 
 class Map(NumberMap):
-    """A sorted map of ints from 0 to 2**64 - 1, with the sum and the greatest of the values of any range of keys in O(log n).
+    """A sorted map of ints from 0 to 2**64 - 1, with the sum, the greatest and the mean of the values of any range of keys in O(log n).
 
     It has the methods of dict and of sortedcontainers' SortedDict. Copies, parts and set operations share memory, and no change
     of one map is seen in another. Costs are in the number n of entries.

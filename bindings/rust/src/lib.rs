@@ -1,5 +1,5 @@
-//! Persistent ordered maps, sequences and interval sets of `u64`, and maps from byte strings to `u64`, with the sum and the
-//! greatest of any part in O(log n).
+//! Persistent ordered maps, sequences and interval sets of `u64`, and maps from signed keys and from byte strings to `u64`, with the
+//! sum and the greatest of any part in O(log n).
 //!
 //! They are those of the proved library `libpam_c`. A clone costs O(1) and shares all memory; no change of one is seen in the
 //! other. Names and meanings are those of the standard library's `BTreeMap` and `Vec` where these have them, but that what takes

@@ -30,7 +30,7 @@ impl Resolve {
     }
 }
 
-/// A map from `u64` to `u64` in the order of keys, with the [`Fold`] of the values of any range of keys in O(log n).
+/// A map from `u64` to `u64` in the order of keys, with the [`Fold`] and the mean of the values of any range of keys in O(log n).
 ///
 /// ```
 /// # use pam::Map;
@@ -220,6 +220,24 @@ impl Map {
         fold
     }
 
+    /// The mean of all values, none where there are none: their sum by their number. The sum is that of `fold`, which stays at
+    /// `u64::MAX` where it would be more, so that the mean is too small then. O(1).
+    pub fn mean(&self) -> Option<f64> {
+        mean(self.fold().sum, self.0.len())
+    }
+
+    /// The mean of the values at the keys of a range, as `mean`. O(log n).
+    ///
+    /// ```
+    /// # use pam::Map;
+    /// let map = Map::from([(1, 10), (2, 20), (3, 5)]);
+    /// assert_eq!((map.mean_range(..3), map.mean_range(4..)), (Some(15.0), None));
+    /// ```
+    pub fn mean_range(&self, range: impl RangeBounds<u64>) -> Option<f64> {
+        let range = (range.start_bound().cloned(), range.end_bound().cloned());
+        mean(self.fold_range(range).sum, self.count(range))
+    }
+
     /// The entries in the order of keys, from either end, fetched in chunks: O(log n) for a chunk, and O(1) for each entry.
     pub fn iter(&self) -> Iter<'_> {
         Iter { map: self, walk: Walk::over(0, self.0.len()) }
@@ -342,6 +360,10 @@ impl Map {
             }
         }
     }
+}
+
+fn mean(sum: u64, count: u64) -> Option<f64> {
+    (count > 0).then(|| sum as f64 / count as f64)
 }
 
 impl Clone for Map {

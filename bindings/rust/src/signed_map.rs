@@ -167,6 +167,16 @@ impl SignedMap {
         self.0.fold_range(raw_range(&range))
     }
 
+    /// The mean of all values, as [`Map::mean`]. O(1).
+    pub fn mean(&self) -> Option<f64> {
+        self.0.mean()
+    }
+
+    /// The mean of the values at the keys of a range, as [`Map::mean`]. O(log n).
+    pub fn mean_range(&self, range: impl RangeBounds<i64>) -> Option<f64> {
+        self.0.mean_range(raw_range(&range))
+    }
+
     /// The entries in the order of keys, from either end, as those of [`Map::iter`].
     pub fn iter(&self) -> SignedIter<'_> {
         SignedIter(self.0.iter())
