@@ -9,6 +9,15 @@ pub struct Graph {
 }
 
 impl Graph {
+    /// The graph of many edges, by one sort of them.
+    pub fn of(edges: &[(u64, u64)]) -> Graph {
+        let mut edges = edges.to_vec();
+        edges.sort_unstable();
+        edges.dedup();
+        let lists = edges.chunk_by(|a, b| a.0 == b.0).map(|run| (run[0].0, run.iter().map(|edge| edge.1).collect()));
+        Graph { lists: lists.collect(), edges: edges.len() as u64 }
+    }
+
     pub fn add(&mut self, from: u64, to: u64) {
         let list = self.lists.entry(from).or_default();
         if let Err(place) = list.binary_search(&to) {
@@ -32,6 +41,16 @@ impl Graph {
 
     pub fn degree(&self, vertex: u64) -> u64 {
         self.lists.get(&vertex).map_or(0, Vec::len) as u64
+    }
+
+    /// The edges in order.
+    pub fn edges(&self) -> impl Iterator<Item = (u64, u64)> + '_ {
+        self.lists.iter().flat_map(|(from, list)| list.iter().map(move |to| (*from, *to)))
+    }
+
+    /// The out-neighbours of a vertex, in order.
+    pub fn out_neighbours(&self, vertex: u64) -> &[u64] {
+        self.lists.get(&vertex).map_or(&[], Vec::as_slice)
     }
 
     /// How many vertices have an out-neighbour, and how many edges there are.
@@ -64,13 +83,12 @@ impl Graph {
 
     /// The ends of all edges in order, each with the least vertex of its component: union-find over a sorted vector.
     fn components(&self) -> Vec<[u64; 2]> {
-        let edges = || self.lists.iter().flat_map(|(from, list)| list.iter().map(move |to| (*from, *to)));
-        let mut vertices: Vec<u64> = edges().flat_map(|(from, to)| [from, to]).collect();
+        let mut vertices: Vec<u64> = self.edges().flat_map(|(from, to)| [from, to]).collect();
         vertices.sort_unstable();
         vertices.dedup();
         let mut parents: Vec<usize> = (0..vertices.len()).collect();
         let place = |vertex| vertices.binary_search(&vertex).expect("an end");
-        for (from, to) in edges() {
+        for (from, to) in self.edges() {
             let (a, b) = (root(&mut parents, place(from)), root(&mut parents, place(to)));
             parents[a.max(b)] = a.min(b);
         }
