@@ -166,6 +166,25 @@ fn at<S: Sequence>(numbers: &mut Numbers, size: u64) {
     report(checksum.sum(), start);
 }
 
+/// Where the sum of the items first is at least a number, as many times as there are items: by a vector of the sums up to each item.
+fn first_where<S: Sequence>(numbers: &mut Numbers, size: u64) {
+    let seq: S = random(numbers, size);
+    let start = Instant::now();
+    let mut checksum = Checksum::default();
+    let mut sum = 0;
+    let mut up_to = |item| {
+        sum += item;
+        sum
+    };
+    let sums: Vec<u64> = seq.run(0, size).map(&mut up_to).collect();
+    let mean = sums.last().unwrap_or(&0) / size.max(1);
+    for _ in 0..size {
+        let least = numbers.below(size) * mean;
+        checksum.add(sums.partition_point(|sum| *sum < least) as u64);
+    }
+    report(checksum.sum(), start);
+}
+
 /// Sums of runs of half of the items.
 fn fold<S: Sequence>(numbers: &mut Numbers, size: u64) {
     let seq: S = random(numbers, size);
@@ -193,6 +212,7 @@ fn run<S: Sequence>(operation: &str, size: u64, seed: u64) {
         "append" => append::<S>(&mut numbers, size),
         "reverse" => reverse::<S>(&mut numbers, size),
         "at" => at::<S>(&mut numbers, size),
+        "first_where" => first_where::<S>(&mut numbers, size),
         "fold" => fold::<S>(&mut numbers, size),
         other => panic!("no operation {other}"),
     }

@@ -48,6 +48,7 @@ fn run<R: Threads + Clock + Sync>(
         "append" => making::time_append(on.rt, alloc, size, seed),
         "reverse" => making::time_reverse(on, alloc, size, seed),
         "at" => asking::time_at(on.rt, alloc, size, seed),
+        "first_where" => asking::time_first_where(on.rt, alloc, size, seed),
         "fold" => asking::time_fold(on.rt, alloc, size, seed),
         _ => bail!("no such operation"),
     }
