@@ -1,4 +1,6 @@
+mod Backs
 mod Fronts
 mod Passes
 mod Past
 mod Runs
+mod Spans

@@ -8,7 +8,17 @@ pub record IsFront {E : Type 0} (front whole : List E) : Type 0 where
   pub some : 0 < length front
   pub begins : whole ≡ front ++ drop (length front) whole
 
--- the items that a seat lends
+-- a list ends with some items, or with none
+pub record IsBack {E : Type 0} (back whole : List E) : Type 0 where
+  pub before : List E
+  pub ends : whole ≡ before ++ back
+
+-- the items that a seat lends from its place on
 abbrev pub items_at : {F E X : Type 0} → Seat F E X → List E
-items_at (Inside items) = items.now
+items_at (Inside before items) = items.now
 items_at (Between item) = item.now ∷ []
+
+-- the items that it lends before its place
+abbrev pub before_in : {F E X : Type 0} → Seat F E X → List E
+before_in (Inside before items) = before.now
+before_in (Between item) = []

@@ -105,7 +105,7 @@ impl<F: Fold, S: BlockSize> SeqOver<F, S> {
         ensures { IfOk result (λ list. list.items ≡ self.now.items) }
     {
         let mut list = Vec::new(alloc);
-        for item in self.cursor(0) {
+        for item in self.iter() {
             list.push(share_item::<F>(alloc, item))?;
         }
         Ok(list)

@@ -8,6 +8,7 @@
 //! Tests: `seq_tests`. Wrong bodies: here, in `wrong-bodies/`.
 #![tactic(auto)]
 
+mod back;
 mod cross;
 mod cursor;
 mod editing;

@@ -1,17 +1,22 @@
 //! Single items by their places.
-ghost use Rattle.std.specs.Prelude.{◌≡◌, ◌<◌, ◌≤◌, ◌↔◌, Some, drop, length, slice_get, slice_set, IfOk, IsNone, OnErr};
-ghost use Rattle.pac_seq.specs.Seats.{IsFront, items_at};
+ghost use Rattle.std.specs.Prelude.{◌≡◌, ◌<◌, ◌≤◌, ◌↔◌, Some, drop, take, length, slice_get, slice_set, IfOk, IsNone, OnErr};
+ghost use Rattle.pac_seq.specs.Seats.{IsBack, IsFront, before_in, items_at};
 
 use crate::seq::SeqOver;
 use aug_monoid::NoMemory;
 use seq_core::{BlockSize, Fold, Look, Part, SeqTree, set_at, share_item};
 use std::alloc::Global;
 
-/// Where an item stands: first in what is left of a block, or between the sides of a node.
+/// Where an item stands: in a block, first of `items` and behind those before it, or between the sides of a node.
 #[derive(Drop)]
 pub(crate) enum Seat<'a, F: Fold> {
-    Inside { items: &'a [F::Item] },
-    Between { item: &'a F::Item },
+    Inside {
+        before: &'a [F::Item],
+        items: &'a [F::Item],
+    },
+    Between {
+        item: &'a F::Item,
+    },
 }
 
 /// The seat of the item at a place.
@@ -19,7 +24,8 @@ pub(crate) enum Seat<'a, F: Fold> {
 // is asked first, so that the program branches, and the processor need not wait for a node before it begins with the next.
 pub(crate) fn seat_at<'a, F: Fold, S: BlockSize>(tree: &'a SeqTree<F, S>, place: u64) -> Seat<'a, F>
     requires { place < length tree.now.items }
-    ensures { IsFront (items_at result) (drop place tree.now.items) }
+    ensures ahead { IsFront (items_at result) (drop place tree.now.items) }
+    ensures behind { IsBack (before_in result) (take place tree.now.items) }
 {
     let mut part = tree;
     let mut place_in = place;
@@ -27,8 +33,8 @@ pub(crate) fn seat_at<'a, F: Fold, S: BlockSize>(tree: &'a SeqTree<F, S>, place:
         match part.look() {
             Look::Empty => unreachable!(),
             Look::Block { items } => {
-                let (_, rest) = items.split_at(place_in as usize);
-                return Seat::Inside { items: rest };
+                let (before, items) = items.split_at(place_in as usize);
+                return Seat::Inside { before, items };
             }
             Look::Node {
                 before,
@@ -55,7 +61,7 @@ fn item_at<'a, F: Fold, S: BlockSize>(tree: &'a SeqTree<F, S>, place: u64) -> &'
     ensures { slice_get tree.now.items place ≡ Some result.now }
 {
     match seat_at(tree, place) {
-        Seat::Inside { items } => &items[0],
+        Seat::Inside { items, .. } => &items[0],
         Seat::Between { item } => item,
     }
 }

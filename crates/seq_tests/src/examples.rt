@@ -86,6 +86,22 @@ fn single_items(rt: HostRuntime) -> Result<(), Fail> {
     Ok(())
 }
 
+/// The first and the last of six numbers, the first from the second place on, and the last before the fourth.
+fn lent(alloc: Global) -> Result<[Option<u64>; 4], NoMemory> {
+    let six = doubled(alloc)?;
+    let mut all = six.iter();
+    let ends = (all.next().copied(), all.next_back().copied());
+    let from = six.range_iter(1, 4).next().copied();
+    let before = six.range_iter(0, 3).rev().next().copied();
+    Ok([ends.0, ends.1, from, before])
+}
+
+#[test]
+fn items_are_lent_at_both_ends(rt: HostRuntime) -> Result<(), Fail> {
+    assert_eq!(rt; lent(rt.alloc())?, [Some(1), Some(3), Some(2), Some(3)]);
+    Ok(())
+}
+
 /// The first and the last of nine numbers, by a share of their sequence.
 fn ends_of_nine(alloc: Global) -> Result<Option<Pair64>, NoMemory> {
     let nine: Seq<Ends, 2> = SeqOver::from_items(alloc, &[1, 2, 3, 4, 5, 6, 7, 8, 9])?;

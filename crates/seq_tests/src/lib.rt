@@ -6,6 +6,8 @@
 #[cfg(test)]
 mod borders;
 #[cfg(test)]
+mod both_ends;
+#[cfg(test)]
 mod editing;
 #[cfg(test)]
 mod examples;
