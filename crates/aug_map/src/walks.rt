@@ -32,6 +32,14 @@ impl<M: ShapeRef> Map<M> {
     pub fn iter_ref(&self) -> IterRef<'_, M>
         ensures { result ≡ self.now.entries }
     {
-        tree_walk::iter_ref(&self.tree)
+        self.iter_ref_between(0, self.tree.size())
+    }
+
+    /// Goes over the entries at the places from `from` up to but without `to`, counted from 0, as `iter_ref` does; over none where
+    /// `from` is not below `to`. Places past the last entry have none.
+    pub fn iter_ref_between(&self, from: u64, to: u64) -> IterRef<'_, M>
+        ensures { result ≡ slice_range self.now.entries from to }
+    {
+        tree_walk::iter_ref_between(&self.tree, from, to)
     }
 }

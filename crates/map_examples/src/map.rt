@@ -42,6 +42,17 @@ pub fn iter(alloc: Global) -> Result<Vec<u64>, NoMemory>
     Ok(keys)
 }
 
+pub fn iter_ref(alloc: Global) -> Result<Vec<u64>, NoMemory>
+    ensures { IfOk result (λ keys. keys.items ≡ 1 ∷ 2 ∷ []) }
+{
+    let map = Sums::from_pairs(alloc, &[(1, 10), (2, 20)])?;
+    let mut keys = Vec::new(alloc);
+    for (key, _) in map.iter_ref() {
+        keys.push(*key)?;
+    }
+    Ok(keys)
+}
+
 pub fn default() -> Sums
     ensures { result ≡ [] }
 {

@@ -32,4 +32,4 @@ mod updates;
 mod wholes;
 
 pub use entry_lists::Change;
-pub use map::{Iter, OrdMap};
+pub use map::{Iter, IterRef, OrdMap};

@@ -4,13 +4,16 @@ ghost use Rattle.map_model.specs.Entries.{IsIncreasing};
 ghost use Rattle.map_model.specs.Fold.{fold_of};
 
 use aug_map::PlainMap;
-use aug_map::shaped::{Cursor, Plain};
+use aug_map::shaped::{self, Cursor, Plain};
 use aug_monoid::{Augment, NoMemory, Share};
 use std::alloc::Global;
 use std::marker::Model;
 
 /// Entries of a map in the order of their keys, from both ends: one item an entry, a share of it or a refusal of that share.
 pub type Iter<'a, A> = Cursor<'a, Plain<A>>;
+
+/// Goes over the entries of a map in the order of their keys, and lends them.
+pub type IterRef<'a, A> = shaped::IterRef<'a, Plain<A>>;
 
 /// A persistent ordered map with the fold of its entries.
 ///
@@ -91,6 +94,20 @@ impl<A: Augment> OrdMap<A> {
         ensures { result ≡ self.now }
     {
         self.map.cursor(alloc)
+    }
+
+    /// Lends the entries in the order of their keys. It makes no share, takes no memory and refuses nothing. An entry takes O(1), but
+    /// the first one of a block, and one between two blocks, O(log n).
+    ///
+    ///     let map = Sums::from_pairs(alloc, &[(1, 10), (2, 20)])?;
+    ///     let mut keys = Vec::new(alloc);
+    ///     for (key, _) in map.iter_ref() {
+    ///         keys.push(*key)?;
+    ///     }     // keys is [1, 2]
+    pub fn iter_ref(&self) -> IterRef<'_, A>
+        ensures { result ≡ self.now }
+    {
+        self.map.iter_ref()
     }
 }
 

@@ -4,7 +4,7 @@ ghost use Rattle.std.specs.BTreeMap.Range.{entries_between, is_from_start, is_pa
 ghost use Rattle.std.specs.List.{filter as filtered};
 ghost use Rattle.std.specs.Range.Bound.{bound_map};
 
-use crate::map::{Iter, OrdMap};
+use crate::map::{Iter, IterRef, OrdMap};
 use aug_monoid::Augment;
 use std::alloc::Global;
 use std::ops::Bound;
@@ -24,6 +24,21 @@ impl<A: Augment> OrdMap<A> {
         let from = self.start_place(lo);
         let to = self.end_place(hi);
         self.map.cursor_between(alloc, from, to)
+    }
+
+    /// Lends the entries whose keys are within two bounds, as `range_iter` goes over them and as `iter_ref` lends. Its ends are found in
+    /// O(log n).
+    ///
+    ///     let map = Sums::from_pairs(alloc, &[(1, 10), (2, 20), (3, 30)])?;
+    ///     let mut entries = map.range_ref(Bound::Excluded(&1), Bound::Unbounded);
+    ///     entries.next().map(|entry| (*entry.0, *entry.1))     // Some((2, 20))
+    pub fn range_ref(&self, lo: Bound<&A::Key>, hi: Bound<&A::Key>) -> IterRef<'_, A>
+        ensures { result ≡ entries_between A.Key.cmp (bound_map (λ k. k.now) lo.entry) (bound_map (λ k. k.now) hi.entry) self.now }
+    {
+        let _number = self.len(); // for the proof alone: keys rise
+        let from = self.start_place(lo);
+        let to = self.end_place(hi);
+        self.map.iter_ref_between(from, to)
     }
 
     /// Goes over the entries from a place on, counted from 0, as `iter` does; over none where there are at most `at` entries.

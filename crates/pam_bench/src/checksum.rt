@@ -1,7 +1,7 @@
 //! Many numbers as one.
 
 use aug_monoid::{NoMemory, SumMax};
-use ord_map::Iter;
+use ord_map::{Iter, IterRef};
 
 /// Mixes numbers, in their order, into one.
 #[derive(Drop)]
@@ -30,6 +30,14 @@ impl Checksum {
             self.add(val);
         }
         Ok(())
+    }
+
+    /// Adds the keys and values of entries that are lent.
+    pub fn add_lent(&mut self, entries: IterRef<'_, SumMax<u64>>) {
+        for (key, val) in entries {
+            self.add(*key);
+            self.add(*val);
+        }
     }
 
     pub fn sum(&self) -> u64 {

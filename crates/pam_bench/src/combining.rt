@@ -150,8 +150,9 @@ pub(crate) fn time_one<R: Threads + Clock + Sync>(
         }
         Whole::Walk => {
             let map = Sums::from_map(map);
-            let checksum = Checksum::of(map.iter(alloc))?;
-            since(on.rt, start, checksum)
+            let mut checksum = Checksum::new();
+            checksum.add_lent(map.iter_ref());
+            since(on.rt, start, checksum.sum())
         }
     }
 }

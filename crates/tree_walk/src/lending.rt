@@ -1,5 +1,5 @@
 //! Walks over trees that lend their entries.
-ghost use Rattle.std.specs.Prelude.{◌≡◌, ◌<◌, drop, length};
+ghost use Rattle.std.specs.Prelude.{◌≡◌, ◌<◌, ◌≤◌, length, slice_range};
 ghost use Rattle.std.specs.Iterator.{YieldsFirstBy, item_count};
 ghost use Rattle.tree_walk.specs.Runs.{IsFront, entries_at, entry_lent};
 
@@ -22,38 +22,51 @@ pub struct IterRef<'a, M: ShapeRef> {
     tree: &'a Tree<M>,
     /// What is left of the block that it is in.
     run: &'a [(M::Key, M::Val)],
-    /// How many entries stand before those after the run.
+    /// How many entries stand before those after the run, and how many before the end.
     after: u64,
+    end: u64,
 }
 
 impl<'a, M: ShapeRef> Model for IterRef<'a, M> {
-    ghost use Rattle.std.specs.Prelude.{List, ◌++◌, drop};
+    ghost use Rattle.std.specs.Prelude.{List, ◌++◌, ◌≤◌, length, slice_range};
 
     ghost Value = { List (M.Key × M.Val) };
 
-    ghost view = { λ i. i.run.now ++ drop i.after i.tree.now.entries };
+    ghost view = { λ i. i.run.now ++ slice_range i.tree.now.entries i.after i.end };
+
+    ghost invariant = { λ i. i.end ≤ length i.tree.now.entries };
 }
 
-/// Goes over the entries of a tree, which it lends. It takes no memory. O(1).
-pub fn iter_ref<M: ShapeRef>(tree: &Tree<M>) -> IterRef<'_, M>
-    ensures { result ≡ tree.now.entries }
+/// Goes over the entries of a tree at the places from `from` up to but without `to`, counted from 0, and lends them; over none where
+/// `from` is not below `to`. Places past the last entry have none. It takes no memory. O(1).
+pub fn iter_ref_between<M: ShapeRef>(tree: &Tree<M>, from: u64, to: u64) -> IterRef<'_, M>
+    ensures { result ≡ slice_range tree.now.entries from to }
 {
+    let end = tree.size().min(to);
     IterRef {
         tree,
         run: &[],
-        after: 0,
+        after: from.min(end),
+        end,
     }
 }
 
-// The first of the entries from a place on.
-fn front_at<'a, M: ShapeRef>(tree: &'a Tree<M>, at: u64) -> Front<'a, M::Key, M::Val>
-    requires { at < length tree.now.entries }
-    ensures { IsFront (entries_at result) (drop at tree.now.entries) }
+// The first of the entries from a place on, up to another.
+fn front_at<'a, M: ShapeRef>(tree: &'a Tree<M>, at: u64, end: u64) -> Front<'a, M::Key, M::Val>
+    requires some { at < end }
+    requires within { end ≤ length tree.now.entries }
+    ensures { IsFront tree.now.entries at end (entries_at result) }
 {
     match find_seat(tree, at) {
         Seat::Entry { key, val } => Front::Entry { key, val },
-        Seat::Inside { leaf, at, .. } => {
-            let (_, entries) = leaf.as_slice().split_at(at as usize);
+        Seat::Inside {
+            leaf,
+            at: inside,
+            ..
+        } => {
+            let (_, run) = leaf.as_slice().split_at(inside as usize);
+            let most = (end - at).min(run.len() as u64);
+            let (entries, _) = run.split_at(most as usize);
             Front::Run { entries }
         }
     }
@@ -71,10 +84,10 @@ impl<'a, M: ShapeRef> Iterator for IterRef<'a, M> {
             self.run = rest;
             return Some((&first.0, &first.1));
         }
-        if self.after >= self.tree.size() {
+        if self.after >= self.end {
             return None;
         }
-        match front_at(self.tree, self.after) {
+        match front_at(self.tree, self.after, self.end) {
             Front::Entry { key, val } => {
                 self.after += 1;
                 Some((key, val))

@@ -13,5 +13,5 @@ mod lending;
 mod seat;
 
 pub use cursor::{Cursor, cursor_between};
-pub use lending::{IterRef, iter_ref};
+pub use lending::{IterRef, iter_ref_between};
 pub use seat::is_key_at;

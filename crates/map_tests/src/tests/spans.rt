@@ -2,7 +2,7 @@
 use super::ordered::Sums;
 use super::sums::Entries;
 use aug_monoid::SumMax;
-use ord_map::{Iter, OrdMap};
+use ord_map::{Iter, IterRef, OrdMap};
 use std::alloc::Global;
 use std::ops::Bound;
 use std::process::Abort;
@@ -56,6 +56,20 @@ fn assert_gives_back<R: Abort>(
     assert_eq!(rt; list.as_slice(), wanted);
 }
 
+/// Asserts which entries are lent.
+fn assert_lends<R: Abort>(
+    rt: &R,
+    alloc: Global,
+    entries: IterRef<'_, SumMax<u64>>,
+    wanted: &[(u64, u64)],
+) {
+    let mut list = Vec::new(alloc);
+    for (key, val) in entries {
+        list.push((*key, *val)).expect(rt, "memory");
+    }
+    assert_eq!(rt; list.as_slice(), wanted);
+}
+
 /// Asserts that a range of the thousand has the keys from `from` on below `to`, both ways.
 fn assert_range<R: Abort>(
     rt: &R,
@@ -69,6 +83,7 @@ fn assert_range<R: Abort>(
     let wanted = thirds(rt, alloc, from, to);
     assert_gives(rt, alloc, map.range_iter(alloc, lo, hi), &wanted);
     assert_gives_back(rt, alloc, map.range_iter(alloc, lo, hi), &wanted);
+    assert_lends(rt, alloc, map.range_ref(lo, hi), &wanted);
 }
 
 #[test]

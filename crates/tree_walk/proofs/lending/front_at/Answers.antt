@@ -1,4 +1,4 @@
-use Rattle.std.proofs.Common.{◌≡◌, [], ◌∷◌, ◌++◌, ◌∙◌, drop, length, sym, ap, arith}
+use Rattle.std.proofs.Common.{◌≡◌, ◌≤◌, ◌<◌, [], ◌∷◌, ◌++◌, ◌∙◌, drop, length, refl, sym, ap, arith}
 use Rattle.std.proofs.lemmas.List.{append-nil}
 use Rattle.tree_walk.specs.Seats.{led_by}
 use Rattle.tree_walk.proofs.Begins.{front_of}
@@ -9,17 +9,21 @@ split_at-requires g c = omega (arith, (c.in-Inside.ensures.ahead []).0, ap lengt
 
 pub returns-in-Entry : goal.returns-in-Entry
 returns-in-Entry g c =
-    let left = drop c.args.at c.args.tree.now.entries in
+    let es = c.args.tree.now.entries in
+    let left = drop c.args.at es in
     let e : g.row.M-Key.Denot × g.row.M-Val.Denot = (c.in-Entry.key.now, c.in-Entry.val.now) in
     let seat = c.in-Entry.ensures.ahead [] in
-    front_of (e ∷ []) seat.0 left (omega arith) (sym (append-nil left) ∙ seat.1)
+    front_of es (e ∷ []) seat.0 (e ∷ []) c.args.at c.args.end 1 (sym (append-nil left) ∙ seat.1) refl (omega arith) (omega arith) (omega (arith, c.requires.some))
 
 pub returns-in-Inside : goal.returns-in-Inside
 returns-in-Inside g c =
-    let left = drop c.args.at c.args.tree.now.entries in
-    let run = c.split_at.result.1.now in
+    let es = c.args.tree.now.entries in
+    let left = drop c.args.at es in
     let ahead = c.in-Inside.ensures.ahead [] in
     let rest = led_by c.in-Inside.next ahead.1.0 in
-    let run_is = c.split_at.ensures.back ∙ ap (drop c.in-Inside.at) c.as_slice.ensures in
-    front_of run rest left (omega (arith, ahead.0, c.split_at.ensures.back_len, ap length c.as_slice.ensures))
-    (sym (append-nil left) ∙ ahead.1.1 ∙ ap (λ l. l ++ rest) (sym run_is))
+    let run = c.split_at.result.1.now in
+    let most = c.min-most.result in
+    let run_is = c.split_at.ensures.back ∙ ap (drop c.in-Inside.inside) c.as_slice.ensures in
+    let long : 0 < length run = omega (arith, ahead.0, c.split_at.ensures.back_len, ap length c.as_slice.ensures) in
+    let whole = sym (append-nil left) ∙ ahead.1.1 ∙ ap (λ l. l ++ rest) (sym run_is) in
+    front_of es run rest c.split_at-in-Inside.result.0.now c.args.at c.args.end most whole c.split_at-in-Inside.ensures.front (omega (arith, c.min-most.ensures)) (omega (arith, c.min-most.ensures, long, c.requires.some)) (omega (arith, c.min-most.ensures, c.requires.some))
