@@ -195,6 +195,7 @@ fn take_in<M: Shape, C: Ledger>(
 /// Makes the fold, the size and the height of a node anew after a put into one of its sides, and answers what the put did to the
 /// node of what it did to the side. Where the side has an entry more, and values combine alike in either order, they are made of
 /// what they were, and no side is looked at but where one may be higher.
+#[inline(always)]
 pub(crate) fn refresh_after_put<M: Shape, C: Ledger>(
     alloc: Global,
     node: &mut Node<M>,
