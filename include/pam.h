@@ -69,7 +69,7 @@ enum {
     PAM_MAX = 3
 };
 
-/* ---- Maps from uint64_t to uint64_t, with the sum and the greatest of the values. n is the number of entries. ---- */
+/* ---- Maps from uint64_t to uint64_t, with the sum, the greatest and the least of the values. n is the number of entries. ---- */
 
 /* Opens a closed handle with the empty map, in O(1). 0, 4, 7 */
 uint8_t pam_map_new(pam_map *map);
@@ -91,6 +91,9 @@ uint8_t pam_map_del(pam_map *map, uint64_t key);
 uint8_t pam_map_fold(pam_map *map, uint64_t *sum, uint64_t *greatest);
 /* The same of the values at keys from `lo` to `hi`, both included, in O(log n). 0, 4 */
 uint8_t pam_map_fold_range(pam_map *map, uint64_t lo, uint64_t hi, uint64_t *sum, uint64_t *greatest);
+/* The least of all values, in O(1), and of those at keys from `lo` to `hi`, both included, in O(log n). 0, 1, 4 */
+uint8_t pam_map_least(pam_map *map, uint64_t *least);
+uint8_t pam_map_least_range(pam_map *map, uint64_t lo, uint64_t hi, uint64_t *least);
 
 /* How many keys are from `lo` to `hi`, both included, in O(log n). 0, 4 */
 uint8_t pam_map_count(pam_map *map, uint64_t lo, uint64_t hi, uint64_t *count);

@@ -56,6 +56,8 @@ static void check_questions(void) {
     CHECK(pam_map_fold(&map, &sum, &greatest) == PAM_OK && sum == 90 && greatest == 50);
     CHECK(pam_map_fold_range(&map, 2, 5, &sum, &greatest) == PAM_OK && sum == 80 && greatest == 50);
     CHECK(pam_map_fold_range(&map, 6, 9, &sum, &greatest) == PAM_OK && sum == 0 && greatest == 0);
+    CHECK(pam_map_least(&map, &val) == PAM_OK && val == 10 && pam_map_least_range(&map, 2, 5, &val) == PAM_OK && val == 30);
+    CHECK(pam_map_least_range(&map, 6, 9, &val) == PAM_NOT_THERE && pam_map_least_range(&map, 5, 1, &val) == PAM_NOT_THERE && val == 30);
     CHECK(pam_map_count(&map, 1, 4, &rank) == PAM_OK && rank == 2 && pam_map_count(&map, 5, 1, &rank) == PAM_OK && rank == 0);
     CHECK(pam_map_rank(&map, 4, &rank) == PAM_OK && rank == 2);
     CHECK(pam_map_select(&map, 1, &key, &val) == PAM_OK && key == 3 && val == 30);

@@ -22,6 +22,8 @@ uint8_t pam_x_map_put(pam_map *map, uint64_t key, uint64_t val);
 uint8_t pam_x_map_del(pam_map *map, uint64_t key);
 uint8_t pam_x_map_fold(pam_map *map, uint64_t *sum, uint64_t *greatest);
 uint8_t pam_x_map_fold_range(pam_map *map, uint64_t lo, uint64_t hi, uint64_t *sum, uint64_t *greatest);
+uint8_t pam_x_map_least(pam_map *map, uint64_t *least);
+uint8_t pam_x_map_least_range(pam_map *map, uint64_t lo, uint64_t hi, uint64_t *least);
 uint8_t pam_x_map_count(pam_map *map, uint64_t lo, uint64_t hi, uint64_t *count);
 uint8_t pam_x_map_rank(pam_map *map, uint64_t key, uint64_t *rank);
 uint8_t pam_x_map_select(pam_map *map, uint64_t at, uint64_t *key, uint64_t *val);
@@ -153,6 +155,20 @@ uint8_t pam_map_fold_range(pam_map *map, uint64_t lo, uint64_t hi, uint64_t *sum
         return PAM_BAD_CALL;
     }
     return pam_x_map_fold_range(map, lo, hi, sum, greatest);
+}
+
+uint8_t pam_map_least(pam_map *map, uint64_t *least) {
+    if (BAD(map) || BAD(least)) {
+        return PAM_BAD_CALL;
+    }
+    return pam_x_map_least(map, least);
+}
+
+uint8_t pam_map_least_range(pam_map *map, uint64_t lo, uint64_t hi, uint64_t *least) {
+    if (BAD(map) || BAD(least)) {
+        return PAM_BAD_CALL;
+    }
+    return pam_x_map_least_range(map, lo, hi, least);
 }
 
 uint8_t pam_map_count(pam_map *map, uint64_t lo, uint64_t hi, uint64_t *count) {

@@ -103,6 +103,11 @@ struct Maps {
         return lo > hi ? Twin() : Twin(twin.lower_bound(lo), twin.upper_bound(hi));
     }
 
+    static uint64_t lowest(const Twin &twin)
+    {
+        return std::min_element(twin.begin(), twin.end(), [](auto &a, auto &b) { return a.second < b.second; })->second;
+    }
+
     static uint64_t resolved(int how, uint64_t a, uint64_t b)
     {
         return how == PAM_FIRST ? a : how == PAM_SECOND ? b : how == PAM_SUM ? plus(a, b) : std::max(a, b);
@@ -152,8 +157,10 @@ struct Maps {
         for (auto &[_, val] : within)
             wanted.add(val);
         EXPECT(some == wanted);
-        uint64_t count;
+        uint64_t count, least = 5;
         EXPECT(pam_map_count(&m, lo, hi, &count) == PAM_OK && count == within.size());
+        EXPECT(pam_map_least_range(&m, lo, hi, &least) == (count ? PAM_OK : PAM_NOT_THERE) && least == (count ? lowest(within) : 5));
+        EXPECT(pam_map_least(&m, &least) == (twin.empty() ? PAM_NOT_THERE : PAM_OK) && (twin.empty() || least == lowest(twin)));
     }
 
     // Two numbers and their keys, which are in the same order.

@@ -63,6 +63,7 @@ class Maps:
         assert dict(part) == dict(zip(keys, vals)) and list(part) == keys
         assert part.sum() == m.sum(lo, hi) == min(sum(vals), TOP)
         assert m.max(lo, hi, default=None) == part.max(default=None) == max(vals, default=None)
+        assert m.min(lo, hi, default=None) == part.min(default=None) == min(vals, default=None)
         assert m.count(lo, hi) == part.count() == len(keys)
         assert m.mean(lo, hi, default=None) == part.mean(default=None) == (min(sum(vals), TOP) / len(vals) if vals else None)
         assert m.items_arrays(lo, hi) == (array(self.code, keys), array("Q", vals)) and m.keys_array(lo, hi) == array(self.code, keys)

@@ -121,6 +121,7 @@ fn parts(map: &mut Map, twin: &mut Twin, r: &mut Random) -> Result<(), NoMemory>
     assert_eq!(map.range(lo..=hi).len(), inside().count());
     assert_eq!(map.fold_range(lo..=hi), fold(inside().map(|(_, val)| val)));
     assert_eq!(map.fold(), fold(twin.values().copied()));
+    assert_eq!((map.least(), map.least_range(lo..=hi)), (twin.values().min().copied(), inside().map(|(_, val)| val).min()));
     let count = inside().count();
     assert_eq!(map.count(lo..=hi), count as u64);
     assert_eq!(map.mean_range(lo..=hi), (count > 0).then(|| fold(inside().map(|(_, val)| val)).sum as f64 / count as f64));
@@ -217,7 +218,7 @@ fn signed_parts(map: &mut SignedMap, twin: &mut SignedTwin, r: &mut Random) -> R
     assert!(map.range(lo..=hi).eq(inside()) && map.part(lo..=hi)?.iter().eq(inside()));
     assert!(map.range(..hi).rev().eq(twin.range(..hi).rev().map(|(&key, &val)| (key, val))));
     assert_eq!(map.fold_range(lo..=hi), fold(inside().map(|(_, val)| val)));
-    assert_eq!(map.count(lo..=hi), inside().count() as u64);
+    assert_eq!((map.count(lo..=hi), map.least_range(lo..=hi)), (inside().count() as u64, inside().map(|(_, val)| val).min()));
     let rest = map.split_off(lo)?;
     same_signed(&rest, &twin.split_off(&lo));
     same_signed(map, twin);

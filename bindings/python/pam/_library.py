@@ -21,7 +21,7 @@ RESOLUTIONS = {"first": 0, "second": 1, "sum": 2, "max": 3}
 _SIGNATURES = {
     "pam_map_": {
         "new": "", "free": "", "share": "h", "len": "w", "get": "nw", "put": "nn", "del": "n", "fold": "ww", "fold_range": "nnww",
-        "count": "nnw", "rank": "nw", "select": "nww", "next": "nww", "prev": "nww", "first": "ww", "last": "ww", "union": "hbh",
+        "least": "w", "least_range": "nnw", "count": "nnw", "rank": "nw", "select": "nww", "next": "nww", "prev": "nww", "first": "ww", "last": "ww", "union": "hbh",
         "intersection": "hbh", "difference": "hh", "split": "nhh", "range": "nnh", "fill": "naaw", "build": "aa",
         "put_many": "aa", "get_many": "aaa", "del_many": "a", "bytes": "aw", "from_bytes": "a",
     },

@@ -359,6 +359,23 @@ class NumberMap(Held, MutableMapping):  # type: ignore[type-arg]
         greatest = self._fold(lo, hi)[1]
         return greatest if greatest or self.count(lo, hi) else _of_none("max", default)
 
+    def min(self, lo: Optional[int] = None, hi: Optional[int] = None, *, default: Any = _MISSING) -> Any:
+        """The least of the values at keys from lo up to hi; where there are none the default, or ValueError. O(log n), O(1) for all.
+
+        >>> m = Map({1: 10, 2: 20, 3: 5})
+        >>> m.min(), m[:3].min(), m.min(7, default=0)
+        (5, 10, 0)
+        """
+        least = Number()
+        if lo is None and hi is None:
+            status = lib.pam_map_least(self._ref, least)
+        else:
+            status = lib.pam_map_least_range(self._ref, *(self._closed(lo, hi) or (1, 0)), least)
+        if status == NOT_THERE:
+            return _of_none("min", default)
+        check(status)
+        return least.value
+
     def mean(self, lo: Optional[int] = None, hi: Optional[int] = None, *, default: Any = _MISSING) -> Any:
         """The mean of the values at keys from lo up to hi, their sum by their number; where there are none the default, or
         ValueError. Where the sum stays at 2**64 - 1, the mean is too small. O(log n).
@@ -582,7 +599,8 @@ class _Items(ItemsView):  # type: ignore[type-arg]
 
 
 class Map(NumberMap):
-    """A sorted map of ints from 0 to 2**64 - 1, with the sum, the greatest and the mean of the values of any range of keys in O(log n).
+    """A sorted map of ints from 0 to 2**64 - 1, with the sum, the greatest, the least and the mean of the values of any range of keys
+    in O(log n).
 
     It has the methods of dict and of sortedcontainers' SortedDict. Copies, parts and set operations share memory, and no change
     of one map is seen in another. Costs are in the number n of entries.

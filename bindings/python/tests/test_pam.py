@@ -76,9 +76,9 @@ class Maps(unittest.TestCase):
         self.assertRaises(ValueError, lambda: m[::2])
         self.assertRaises(ValueError, m.max, 200)
         self.assertEqual(m.max(200, default=None), None)
-        self.assertEqual((m.mean(), m[10:13].mean(), m.mean(9, 11)), (99.0, 22.0, 19.0))
+        self.assertEqual((m.min(), m.min(10, 13), m[10:13].min(), m.min(200, default=7), m[10:13].mean(), m.mean(9, 11)), (0, 20, 20, 7, 22.0, 19.0))
         self.assertEqual((m.count(), m.count(10, 13), m[10:].count(-5, 13), m.count(13, 10), m.mean(200, default=None)), (100, 3, 3, 0, None))
-        for call in (m.mean, m[:0].mean):
+        for call in (m.min, m.mean, m[:0].min, m[:0].mean):
             self.assertRaises(ValueError, call, 200)
         self.assertEqual(pam.Map({1: TOP, 2: TOP}).mean(), TOP / 2)
         del m[5:95]
@@ -217,7 +217,7 @@ class SignedMaps(unittest.TestCase):
         m = self.map
         self.assertEqual((m[-3:1], m[:0], m[2:], m[:LEAST], m[9:-9]), ({-3: 30}, {LEAST: 5, -3: 30}, {GREATEST: 7}, {}, {}))
         self.assertEqual((m.sum(), m.sum(-3, 2), m.max(0), m[:0].max(), m.sum(0, -1)), (52, 40, 10, 30, 0))
-        self.assertEqual((m.count(-3, 2), m[:0].mean(), m.count(LEAST, GREATEST)), (2, 17.5, 3))
+        self.assertEqual((m.count(-3, 2), m.min(-3), m[:0].mean(), m.count(LEAST, GREATEST)), (2, 7, 17.5, 3))
         below, rest = m.split(0)
         self.assertEqual((list(below), list(rest)), ([LEAST, -3], [1, GREATEST]))
         del m[-3:1]
@@ -442,7 +442,7 @@ class Lives(unittest.TestCase):
         m.close()
         other = pam.Map({1: 1})
         calls = [lambda: m[1], lambda: 1 in m, lambda: m.__setitem__(1, 1), lambda: m.__delitem__(1), lambda: m[1:2], lambda: m | other,
-                 lambda: other & m, lambda: other - m, m.sum, lambda: m.sum(3, 2), m.mean, m.count, lambda: m.count(3, 2), lambda: m.bisect(1), m.clear, m.to_bytes,
+                 lambda: other & m, lambda: other - m, m.sum, lambda: m.sum(3, 2), m.min, m.mean, m.count, lambda: m.min(3, 2), lambda: m.count(3, 2), lambda: m.bisect(1), m.clear, m.to_bytes,
                  m.keys_array, lambda: m.get_many([1]), lambda: m.put_many([1], [1]), lambda: m.del_many([]), lambda: m.update({}), lambda: m == other]
         for call in calls:
             self.assertRaises(ValueError, call)

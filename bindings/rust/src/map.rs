@@ -30,7 +30,8 @@ impl Resolve {
     }
 }
 
-/// A map from `u64` to `u64` in the order of keys, with the [`Fold`] and the mean of the values of any range of keys in O(log n).
+/// A map from `u64` to `u64` in the order of keys, with the [`Fold`], the least and the mean of the values of any range of keys in
+/// O(log n).
 ///
 /// ```
 /// # use pam::Map;
@@ -218,6 +219,27 @@ impl Map {
             sure(unsafe { raw::pam_map_fold_range(self.0.as_ptr(), lo, hi, &mut fold.sum, &mut fold.greatest) });
         }
         fold
+    }
+
+    /// The least of all values, none where there are none. O(1).
+    pub fn least(&self) -> Option<u64> {
+        let mut least = 0;
+        // SAFETY: an open handle.
+        there(unsafe { raw::pam_map_least(self.0.as_ptr(), &mut least) }).then_some(least)
+    }
+
+    /// The least of the values at the keys of a range, none where there are none. O(log n).
+    ///
+    /// ```
+    /// # use pam::Map;
+    /// let map = Map::from([(1, 10), (2, 20), (3, 5)]);
+    /// assert_eq!((map.least(), map.least_range(..3), map.least_range(4..)), (Some(5), Some(10), None));
+    /// ```
+    pub fn least_range(&self, range: impl RangeBounds<u64>) -> Option<u64> {
+        let (lo, hi) = closed(&range)?;
+        let mut least = 0;
+        // SAFETY: an open handle.
+        there(unsafe { raw::pam_map_least_range(self.0.as_ptr(), lo, hi, &mut least) }).then_some(least)
     }
 
     /// The mean of all values, none where there are none: their sum by their number. The sum is that of `fold`, which stays at

@@ -144,6 +144,8 @@ extern "C" {
     pub fn pam_map_del(m: *mut Raw, key: u64) -> u8;
     pub fn pam_map_fold(m: *mut Raw, sum: *mut u64, greatest: *mut u64) -> u8;
     pub fn pam_map_fold_range(m: *mut Raw, lo: u64, hi: u64, sum: *mut u64, greatest: *mut u64) -> u8;
+    pub fn pam_map_least(m: *mut Raw, least: *mut u64) -> u8;
+    pub fn pam_map_least_range(m: *mut Raw, lo: u64, hi: u64, least: *mut u64) -> u8;
     pub fn pam_map_count(m: *mut Raw, lo: u64, hi: u64, count: *mut u64) -> u8;
     pub fn pam_map_rank(m: *mut Raw, key: u64, rank: *mut u64) -> u8;
     pub fn pam_map_select(m: *mut Raw, at: u64, key: *mut u64, val: *mut u64) -> u8;

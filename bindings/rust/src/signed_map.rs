@@ -167,6 +167,16 @@ impl SignedMap {
         self.0.fold_range(raw_range(&range))
     }
 
+    /// The least of all values, none where there are none. O(1).
+    pub fn least(&self) -> Option<u64> {
+        self.0.least()
+    }
+
+    /// The least of the values at the keys of a range, none where there are none. O(log n).
+    pub fn least_range(&self, range: impl RangeBounds<i64>) -> Option<u64> {
+        self.0.least_range(raw_range(&range))
+    }
+
     /// The mean of all values, as [`Map::mean`]. O(1).
     pub fn mean(&self) -> Option<f64> {
         self.0.mean()

@@ -66,6 +66,17 @@ fn folds(rt: HostRuntime) {
         OK
     );
     assert_eq!(rt; (sum, greatest), (40, 30));
+    assert_eq!(rt; map_handle::least(alloc, &mut map, &mut sum), OK);
+    assert_eq!(rt; sum, 10);
+    assert_eq!(rt;
+        map_handle::least_range(alloc, &mut map, 2, 9, &mut sum),
+        OK
+    );
+    assert_eq!(rt; sum, 30);
+    assert_eq!(rt;
+        map_handle::least_range(alloc, &mut map, 6, 9, &mut sum),
+        NOT_THERE
+    );
     assert_eq!(rt; map_handle::free(alloc, &mut map), OK);
 }
 

@@ -1,12 +1,12 @@
 //! Maps as bytes, of which the expected ones are made by another program, with zlib's Adler-32.
-use aug_monoid::SumMax;
 use entry_bytes::DecodeFault;
 use map_bytes::{decode, encode};
+use map_folds::SumMaxMin;
 use ord_map::OrdMap;
 use std::alloc::Global;
 use std::process::Abort;
 
-type Sums = OrdMap<SumMax<u64>>;
+type Sums = OrdMap<SumMaxMin<u64>>;
 
 /// The bytes of the map of some pairs.
 fn bytes_of<R: Abort>(rt: &R, alloc: Global, pairs: &[(u64, u64)]) -> Vec<u8> {

@@ -3,7 +3,7 @@ use crate::instances::fold_of;
 use aug_monoid::{Augment, Text};
 use map_folds::{
     AllTrue, AnyTrue, CheckedSum, Count, FirstValue, Greatest, GreatestEntry, LastValue, Least,
-    LeastEntry, LongestRun, Mean, Runs, SaturatingSum, SignedSum, SumCount, Triple,
+    LeastEntry, LongestRun, Mean, Runs, SaturatingSum, SignedSum, SumCount, SumMaxMin, Triple,
 };
 
 // Their sum is 82.
@@ -52,6 +52,20 @@ fn the_least_and_the_greatest_value(rt: HostRuntime) {
     assert_eq!(rt; (least, greatest), (Some(i64::MIN), Some(3)));
     let none = fold_of::<HostRuntime, Greatest<u64, u64>>(&rt, rt.alloc(), NONE);
     assert_eq!(rt; none, None);
+}
+
+#[test]
+fn the_sum_the_greatest_and_the_least(rt: HostRuntime) {
+    let some = fold_of::<HostRuntime, SumMaxMin<u64>>(&rt, rt.alloc(), VALUES);
+    assert_eq!(rt;
+        (some.totals.sum, some.totals.greatest, some.least),
+        (82, 34, 4)
+    );
+    let none = fold_of::<HostRuntime, SumMaxMin<u64>>(&rt, rt.alloc(), NONE);
+    assert_eq!(rt;
+        (none.totals.sum, none.totals.greatest, none.least),
+        (0, 0, u64::MAX)
+    );
 }
 
 #[test]

@@ -3,8 +3,8 @@ ghost use Rattle.std.specs.Prelude.{◌≡◌, ℕ, List, ◌+◌, ◌*◌, ◌�
 ghost use Rattle.entry_bytes.specs.Faults.{IsFirstFault};
 ghost use Rattle.entry_bytes.specs.Format.{IsMap, encoding};
 
-use aug_monoid::SumMax;
 use entry_bytes::{DecodeFault, read_entries};
+use map_folds::SumMaxMin;
 use ord_map::OrdMap;
 use std::alloc::Global;
 
@@ -12,7 +12,7 @@ use std::alloc::Global;
 ///
 /// The number of entries is compared with the bytes that are left before anything is allocated, so that hostile bytes take no
 /// more memory than a map of half as many entries as there are bytes.
-pub fn decode(alloc: Global, bytes: &[u8]) -> Result<OrdMap<SumMax<u64>>, DecodeFault>
+pub fn decode(alloc: Global, bytes: &[u8]) -> Result<OrdMap<SumMaxMin<u64>>, DecodeFault>
     ensures encoding { IfOk result (λ map. bytes.now ≡ encoding map) }
     ensures lawful { IfOk result (λ map. IsMap map) }
     ensures small { IfOk result (λ map. 2 * length map + 11 ≤ length bytes.now) }

@@ -6,8 +6,9 @@ ghost use Rattle.gap_code.specs.Code.{code};
 ghost use Rattle.gap_code.specs.Leb.{leb};
 ghost use Rattle.entry_bytes.specs.Format.{encoding};
 
-use aug_monoid::{NoMemory, SumMax};
+use aug_monoid::NoMemory;
 use entry_bytes::{begin, push_checksum, push_entry};
+use map_folds::SumMaxMin;
 use ord_map::OrdMap;
 use std::alloc::Global;
 
@@ -15,7 +16,7 @@ use std::alloc::Global;
 fn push_entries(
     alloc: Global,
     bytes: &mut Vec<u8>,
-    map: &OrdMap<SumMax<u64>>,
+    map: &OrdMap<SumMaxMin<u64>>,
 ) -> Result<(), NoMemory>
     requires { IsIncreasing nat_cmp map.now }
     ensures { OnOk result (bytes.new.items ≡ bytes.old.items ++ code leb map.now) }
@@ -30,7 +31,7 @@ fn push_entries(
 }
 
 /// The bytes of a map, in O(n) for n entries; at most 20 an entry and 20 more. Refuses for want of memory alone.
-pub fn encode(alloc: Global, map: &OrdMap<SumMax<u64>>) -> Result<Vec<u8>, NoMemory>
+pub fn encode(alloc: Global, map: &OrdMap<SumMaxMin<u64>>) -> Result<Vec<u8>, NoMemory>
     ensures { IfOk result (λ bytes. bytes.items ≡ encoding map.now) }
 {
     let mut bytes = begin(alloc, map.len())?;

@@ -3,8 +3,10 @@ use Rattle.std.specs.Prelude.{◌≡◌, Bool, true, false, ◌&&◌, ◌||◌, 
 use Rattle.std.proofs.Common.{ap, ap₂, arith}
 use Rattle.std.proofs.Math.IntN.{+ℤ_comm}
 use Rattle.aug_monoid.specs.Commuting.{IsCommutativeOver}
+use Rattle.aug_monoid.specs.Totals.{totals}
 use Rattle.map_folds.specs.Means.{MeansFit, means, means_combine}
 use Rattle.map_folds.specs.Sums.{FitsI128, SumWithin64, Within64, capped_sum, checked_sum, in_128, signed_sum, within64}
+use Rattle.map_folds.specs.Summaries.{SummaryFits, summary, summary_combine}
 use Rattle.map_folds.specs.Triples.{TripleFits, triple_combine}
 
 pub capped_commutes : IsCommutativeOver Within64 capped_sum
@@ -21,6 +23,9 @@ signed_commutes a b f g = ap in_128 (+ℤ_comm a b)
 
 pub means_commute : IsCommutativeOver MeansFit means_combine
 means_commute a b f g = ap₂ means (omega arith) (omega arith)
+
+pub summaries_commute : IsCommutativeOver SummaryFits summary_combine
+summaries_commute a b f g = ap₂ summary (ap₂ totals (omega arith) (omega arith)) (omega arith)
 
 pub any_commutes : IsCommutativeOver {X = Bool} (λ _. Unit {0}) (λ a b. a || b)
 any_commutes true true _ _ = refl

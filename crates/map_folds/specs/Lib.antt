@@ -3,6 +3,7 @@ pub mod Later
 pub mod Ends
 pub mod Truths
 pub mod Means
+pub mod Summaries
 pub mod Runs
 pub mod RunLists
 pub mod Triples

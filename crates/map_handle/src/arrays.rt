@@ -11,7 +11,8 @@ use crate::handle::{Handle, is_open, keep, take};
 use crate::inner::Inner;
 use crate::making::open;
 use crate::status::{BAD_CALL, NO_MEMORY, OK};
-use aug_monoid::{NoMemory, SumMax};
+use aug_monoid::NoMemory;
+use map_folds::SumMaxMin;
 use ord_map::OrdMap;
 use std::alloc::{AllocError, Global};
 
@@ -45,7 +46,7 @@ pub fn build(alloc: Global, map: &mut Handle, keys: &[u64], vals: &[u64]) -> u8
     }
 }
 
-fn built(alloc: Global, keys: &[u64], vals: &[u64]) -> Result<OrdMap<SumMax<u64>>, NoMemory>
+fn built(alloc: Global, keys: &[u64], vals: &[u64]) -> Result<OrdMap<SumMaxMin<u64>>, NoMemory>
     ensures { IfOk result (λ made. made ≡ build nat_cmp (zip keys.now vals.now)) }
 {
     match pairs_of(alloc, keys, vals) {
@@ -106,7 +107,7 @@ fn del_keys(alloc: Global, kept: &mut Inner, keys: &[u64]) -> u8
     }
 }
 
-fn rest_of(alloc: Global, kept: &Inner, keys: &[u64]) -> Result<OrdMap<SumMax<u64>>, NoMemory>
+fn rest_of(alloc: Global, kept: &Inner, keys: &[u64]) -> Result<OrdMap<SumMaxMin<u64>>, NoMemory>
     ensures { IfOk result (λ rest. rest ≡ without kept.now keys.now) }
 {
     let Ok(pairs) = keyed(alloc, keys) else {

@@ -7,9 +7,9 @@ ghost use Rattle.map_handle.specs.Bytes.{Fills, Opens, room};
 use crate::handle::{Handle, is_open, keep, take};
 use crate::making::open;
 use crate::status::{BAD_CALL, NO_MEMORY, NO_ROOM, NOT_A_MAP, OK};
-use aug_monoid::SumMax;
 use entry_bytes::DecodeFault;
 use map_bytes::{decode, encode};
+use map_folds::SumMaxMin;
 use ord_map::OrdMap;
 use std::alloc::Global;
 
@@ -28,7 +28,7 @@ fn laid(bytes: &[u8], out: &mut [u8], needed: &mut usize) -> u8
 
 fn write_encoding(
     alloc: Global,
-    map: &OrdMap<SumMax<u64>>,
+    map: &OrdMap<SumMaxMin<u64>>,
     out: &mut [u8],
     needed: &mut usize,
 ) -> u8

@@ -9,7 +9,8 @@ ghost use Rattle.map_model.specs.Parts.{rank, right_of};
 use crate::handle::{Handle, keep, take};
 use crate::inner::Inner;
 use crate::status::{BAD_CALL, OK};
-use aug_monoid::{NoMemory, Share, SumMax};
+use aug_monoid::{NoMemory, Share};
+use map_folds::SumMaxMin;
 use ord_map::OrdMap;
 use std::alloc::Global;
 
@@ -62,7 +63,11 @@ fn write_from_key(
 }
 
 /// The entries with keys at least `from_key`, as a map in the memory of this one.
-fn entries_from(alloc: Global, kept: &Inner, from_key: u64) -> Result<OrdMap<SumMax<u64>>, NoMemory>
+fn entries_from(
+    alloc: Global,
+    kept: &Inner,
+    from_key: u64,
+) -> Result<OrdMap<SumMaxMin<u64>>, NoMemory>
     ensures { IfOk result (λ rest. rest ≡ right_of nat_cmp kept.now from_key) }
 {
     let mut below = kept.map.share(alloc)?;
@@ -70,7 +75,12 @@ fn entries_from(alloc: Global, kept: &Inner, from_key: u64) -> Result<OrdMap<Sum
 }
 
 /// Writes the entries of a map.
-fn write_all(alloc: Global, rest: &OrdMap<SumMax<u64>>, keys: &mut [u64], vals: &mut [u64]) -> usize
+fn write_all(
+    alloc: Global,
+    rest: &OrdMap<SumMaxMin<u64>>,
+    keys: &mut [u64],
+    vals: &mut [u64],
+) -> usize
     requires { length keys.old ≡ length vals.old }
     ensures { (result, keys.new, vals.new) ≡ filled rest.now keys.old vals.old }
 {

@@ -1,12 +1,12 @@
 //! What an open handle keeps.
-use aug_monoid::SumMax;
+use map_folds::SumMaxMin;
 use ord_map::OrdMap;
 use std::marker::Model;
 
 /// What an open handle keeps.
 #[derive(Drop)]
 pub struct Inner {
-    pub map: OrdMap<SumMax<u64>>,
+    pub map: OrdMap<SumMaxMin<u64>>,
 }
 
 impl Model for Inner {

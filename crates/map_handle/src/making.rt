@@ -10,12 +10,13 @@ ghost use Rattle.map_model.specs.Parts.{right_of, slice};
 use crate::handle::{Handle, is_open, keep, take};
 use crate::inner::Inner;
 use crate::status::{BAD_CALL, NO_MEMORY, OK};
-use aug_monoid::{NoMemory, Share, SumMax};
+use aug_monoid::{NoMemory, Share};
+use map_folds::SumMaxMin;
 use ord_map::OrdMap;
 use std::alloc::Global;
 
 /// Opens a closed handle with a map.
-pub(crate) fn open(alloc: Global, out: &mut Handle, map: OrdMap<SumMax<u64>>) -> u8
+pub(crate) fn open(alloc: Global, out: &mut Handle, map: OrdMap<SumMaxMin<u64>>) -> u8
     requires { out.old.entries ≡ None }
     ensures { Becomes (Some map) result out.old.entries out.new.entries }
 {

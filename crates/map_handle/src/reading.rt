@@ -1,9 +1,7 @@
-//! What a map tells: its size, its folds, and its entries by place and by key.
+//! What a map tells: its size, and its entries by place and by key.
 ghost use Rattle.std.specs.Prelude.{◌≡◌, IfOk, IsOk, Some, length};
 ghost use Rattle.std.specs.Option.{option_map};
 ghost use Rattle.std.specs.Ordering.{nat_cmp};
-ghost use Rattle.aug_monoid.specs.Totals.{totals};
-ghost use Rattle.map_handle.specs.Folds.{range_totals, totals_of};
 ghost use Rattle.map_model.specs.Parts.{next, prev, rank, select, slice};
 ghost use Rattle.ord_map.specs.Ends.{last};
 ghost use Rattle.loose.specs.Statuses.{Answers, Written};
@@ -11,7 +9,7 @@ ghost use Rattle.loose.specs.Statuses.{Answers, Written};
 use crate::handle::{Handle, keep, take};
 use crate::inner::Inner;
 use crate::status::{BAD_CALL, NOT_THERE, OK};
-use aug_monoid::{NoMemory, Totals};
+use aug_monoid::NoMemory;
 use std::alloc::Global;
 
 /// How many entries there are, in O(1).
@@ -25,66 +23,6 @@ pub fn len(alloc: Global, map: &mut Handle, count: &mut u64) -> u8
     *count = kept.map.len();
     keep(map, kept);
     OK
-}
-
-/// The saturating sum and the greatest of the values, both 0 where there are none, in O(1).
-pub fn fold(alloc: Global, map: &mut Handle, sum: &mut u64, greatest: &mut u64) -> u8
-    ensures answer { Answers (option_map (λ m. Some (totals_of m)) map.old.entries) result (totals sum.old greatest.old) (totals sum.new greatest.new) }
-    ensures same { map.new.entries ≡ map.old.entries }
-{
-    let Some(kept) = take(alloc, map) else {
-        return BAD_CALL;
-    };
-    let all = all_totals(&kept);
-    keep(map, kept);
-    write_totals(all, sum, greatest);
-    OK
-}
-
-fn all_totals(kept: &Inner) -> Totals
-    ensures { result ≡ totals_of kept.now }
-{
-    match kept.map.fold() {
-        Some(all) => *all,
-        None => Totals {
-            sum: 0,
-            greatest: 0,
-        },
-    }
-}
-
-fn write_totals(all: Totals, sum: &mut u64, greatest: &mut u64)
-    ensures { totals sum.new greatest.new ≡ all }
-{
-    *sum = all.sum;
-    *greatest = all.greatest;
-}
-
-/// The saturating sum and the greatest of the values at keys from `lo` to `hi`, both included, in O(log n); both 0 where there
-/// are none.
-pub fn fold_range(
-    alloc: Global,
-    map: &mut Handle,
-    lo: u64,
-    hi: u64,
-    sum: &mut u64,
-    greatest: &mut u64,
-) -> u8
-    ensures answer { Answers (option_map (λ m. Some (range_totals m lo hi)) map.old.entries) result (totals sum.old greatest.old) (totals sum.new greatest.new) }
-    ensures same { map.new.entries ≡ map.old.entries }
-{
-    let Some(kept) = take(alloc, map) else {
-        return BAD_CALL;
-    };
-    let part = kept.map.fold_range(alloc, &lo, &hi);
-    keep(map, kept);
-    match part {
-        Ok(all) => {
-            write_totals(all, sum, greatest);
-            OK
-        }
-        Err(_) => unreachable!(),
-    }
 }
 
 /// How many keys are less than `key`, in O(log n).
@@ -113,7 +51,8 @@ pub fn count(alloc: Global, map: &mut Handle, lo: u64, hi: u64, count: &mut u64)
     OK
 }
 
-fn count_within(kept: &Inner, lo: u64, hi: u64) -> u64
+/// How many entries have keys from `lo` to `hi`.
+pub(crate) fn count_within(kept: &Inner, lo: u64, hi: u64) -> u64
     ensures { result ≡ length (slice nat_cmp kept.now lo hi) }
 {
     if lo > hi {

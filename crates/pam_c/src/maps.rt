@@ -4,7 +4,7 @@ ghost use Rattle.entry_bytes.specs.Format.{encoding};
 ghost use Rattle.loose.specs.Statuses.{Answers, Becomes, both, into};
 ghost use Rattle.map_handle.specs.Arrays.{filled, found_at, without};
 ghost use Rattle.map_handle.specs.Bytes.{Fills, Opens, room};
-ghost use Rattle.map_handle.specs.Folds.{range_totals, totals_of};
+ghost use Rattle.map_handle.specs.Folds.{least_of, range_totals, totals_of};
 ghost use Rattle.map_handle.specs.Hows.{how_at, shared, united};
 ghost use Rattle.map_handle.specs.Keys.{Lacks};
 ghost use Rattle.map_model.specs.Entries.{below, drop_key, lookup, set};
@@ -110,6 +110,30 @@ pub extern "C" fn pam_x_map_fold_range(
     ensures same { map.new.entries ≡ map.old.entries }
 {
     map_handle::fold_range(alloc, map, lo, hi, sum, greatest)
+}
+
+/// The least of the values, in O(1), if there are any.
+#[unsafe(no_mangle)]
+pub extern "C" fn pam_x_map_least(alloc: Global, map: &mut Handle, least: &mut u64) -> u8
+    ensures answer { Answers (option_map least_of map.old.entries) result least.old least.new }
+    ensures same { map.new.entries ≡ map.old.entries }
+{
+    map_handle::least(alloc, map, least)
+}
+
+/// The least of the values at keys from `lo` to `hi`, both included, in O(log n), if there are any.
+#[unsafe(no_mangle)]
+pub extern "C" fn pam_x_map_least_range(
+    alloc: Global,
+    map: &mut Handle,
+    lo: u64,
+    hi: u64,
+    least: &mut u64,
+) -> u8
+    ensures answer { Answers (option_map (λ m. least_of (slice nat_cmp m lo hi)) map.old.entries) result least.old least.new }
+    ensures same { map.new.entries ≡ map.old.entries }
+{
+    map_handle::least_range(alloc, map, lo, hi, least)
 }
 
 /// How many entries have keys from `lo` to `hi`, both included, in O(log n).

@@ -1,6 +1,6 @@
-use Rattle.std.proofs.Common.{◌≡◌, ℕ, List, ◌+◌, length, ap, ◌∙◌, arith}
+use Rattle.std.proofs.Common.{◌≡◌, ℕ, List, length, ap, ◌∙◌, arith}
 use Rattle.std.specs.Ordering.{nat_cmp}
-use Rattle.map_model.specs.Parts.{left_of, rank, slice}
+use Rattle.map_model.specs.Parts.{left_of, rank}
 use Rattle.map_handle.proofs.Counted.{counted_between, counted_none}
 use Rattle.map_handle.proofs.reading.count_within.Goals as goal
 
