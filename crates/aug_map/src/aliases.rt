@@ -11,7 +11,7 @@ pub type Map<A, L, const B: usize> = ShapedMap<Of<A, L, B>>;
 /// A map in blocks that are plain vectors.
 pub type PlainMap<A> = ShapedMap<Plain<A>>;
 
-/// A map with number keys, in blocks that keep the gaps between the keys.
+/// A map with keys that stand for numbers (`NumberKey`), as integers of up to 64 bits do, in blocks that keep the gaps between these.
 pub type CodedMap<A> = ShapedMap<Coded<A>>;
 
 /// The entries of a map in the order of their keys.

@@ -1,6 +1,6 @@
 //! The shapes of the two kinds of maps that users take, each a marker with nothing but the augment as its parameter.
 use aug_monoid::Augment;
-use diff_leaf::{DiffLeaf, ValueCode};
+use diff_leaf::{NumberKey, NumberLeaf, ValueCode};
 use leaf_blocks::PlainLeaf;
 use std::marker::PhantomData;
 use tree_shape::Shape;
@@ -29,12 +29,12 @@ impl<A: Augment> Shape for Plain<A> {
     ghost lawful = { (Prim.omega arith, Prim.omega arith) };
 }
 
-/// The shape of maps with number keys in blocks of 32 to 64 entries that keep the gaps between the keys.
+/// The shape of maps with keys that stand for numbers, in blocks of 32 to 64 entries that keep the gaps between these.
 #[derive(Drop)]
 pub struct Coded<A>(PhantomData<A>);
 
-impl<A: Augment<Key = u64, Val: ValueCode>> Shape for Coded<A> {
-    type Key = u64;
+impl<A: Augment<Key: NumberKey, Val: ValueCode>> Shape for Coded<A> {
+    type Key = A::Key;
 
     type Val = A::Val;
 
@@ -42,7 +42,7 @@ impl<A: Augment<Key = u64, Val: ValueCode>> Shape for Coded<A> {
 
     type Augment = A;
 
-    type Leaf = DiffLeaf<A::Val>;
+    type Leaf = NumberLeaf<A::Key, A::Val>;
 
     const BLOCK: usize = 32;
 

@@ -2,7 +2,7 @@
 ghost use Rattle.std.specs.Prelude.{◌≡◌, IfOk};
 
 use aug_monoid::{Key, Leaf, NoMemory, Pair64, Share};
-use diff_leaf::{DiffLeaf, ValueCode};
+use diff_leaf::{NumberKey, NumberLeaf, ValueCode};
 use leaf_blocks::PlainLeaf;
 use row_leaf::RowLeaf;
 use std::alloc::Global;
@@ -24,8 +24,8 @@ impl<K: Key, V: Share> IntoEntries<K, V> for PlainLeaf<K, V> {
 }
 
 /// Decodes its entries.
-impl<V: ValueCode> IntoEntries<u64, V> for DiffLeaf<V> {
-    fn into_entries(self, alloc: Global) -> Result<Vec<(u64, V)>, NoMemory> {
+impl<K: NumberKey, V: ValueCode> IntoEntries<K, V> for NumberLeaf<K, V> {
+    fn into_entries(self, alloc: Global) -> Result<Vec<(K, V)>, NoMemory> {
         copied_entries(alloc, &self)
     }
 }

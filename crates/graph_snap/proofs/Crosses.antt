@@ -13,15 +13,15 @@ use Rattle.tree_shape.proofs.tree.Tree.TheLaws.TheKnot.{both_send-Tree as tree_s
 use Rattle.tree_shape.proofs.tree.Block.TheSendSync as Block
 use Rattle.leaf_blocks.proofs.plain_leaf.PlainLeaf.TheSendSync as PlainLeafSent
 use Rattle.leaf_blocks.specs.contracts.plain_leaf.PlainLeaf as PlainLeaf
-use Rattle.diff_leaf.proofs.leaf.DiffLeaf.TheSendSync as DiffLeaf
+use Rattle.diff_leaf.proofs.leaf.NumberLeaf.TheSendSync as NumberLeaf
 use Rattle.graph_snap.specs.contracts.neighbours.Neighbours as Neighbours
 use Rattle.graph_snap.specs.contracts.neighbours.NeighboursShare.TheImpl as set_shared
 
 pub set_send : IsSend Neighbours.the_row
-set_send = search (sendable, std_crosses, tree_send, Block.the_send, Block.the_sync, DiffLeaf.the_send, DiffLeaf.the_sync) depth 20
+set_send = search (sendable, std_crosses, tree_send, Block.the_send, Block.the_sync, NumberLeaf.the_send, NumberLeaf.the_sync) depth 20
 
 pub set_sync : IsSync Neighbours.the_row
-set_sync = search (sendable, std_crosses, tree_sync, Block.the_send, Block.the_sync, DiffLeaf.the_send, DiffLeaf.the_sync) depth 20
+set_sync = search (sendable, std_crosses, tree_sync, Block.the_send, Block.the_sync, NumberLeaf.the_send, NumberLeaf.the_sync) depth 20
 
 -- a block of vertices with their sets
 abbrev pub block : RattleType

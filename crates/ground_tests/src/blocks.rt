@@ -22,10 +22,10 @@ pub(crate) fn seek_of<K: Key, V: Share, L: Leaf<K, V>>(leaf: &L, key: &K) -> (u6
 }
 
 /// Asserts that keys stand at their places, and whether they are there.
-pub(crate) fn assert_seeks<R: Abort, V: Share, L: Leaf<u64, V>>(
+pub(crate) fn assert_seeks<R: Abort, K: Key, V: Share, L: Leaf<K, V>>(
     rt: &R,
     leaf: &L,
-    rows: &[(u64, u64, bool)],
+    rows: &[(K, u64, bool)],
 ) {
     for row in rows {
         assert_eq!(rt; seek_of(leaf, &row.0), (row.1, row.2));

@@ -24,6 +24,8 @@ mod row_blocks;
 #[cfg(test)]
 mod sets;
 #[cfg(test)]
+mod signed_blocks;
+#[cfg(test)]
 mod slices;
 #[cfg(test)]
 mod sortings;
