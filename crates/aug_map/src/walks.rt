@@ -18,7 +18,8 @@ impl<M: Shape> Map<M> {
     }
 
     /// Goes over the entries at the places from `from` up to but without `to`, counted from 0, as `cursor` does; over none where
-    /// `from` is not below `to`. Places past the last entry have none.
+    /// `from` is not below `to`. Places past the last entry have none. Of a coded block inside which it begins each entry takes time
+    /// linear in the block's size.
     pub fn cursor_between(&self, alloc: Global, from: u64, to: u64) -> Cursor<'_, M>
         ensures { result ≡ slice_range self.now.entries from to }
     {

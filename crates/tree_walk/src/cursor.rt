@@ -22,8 +22,9 @@ pub(crate) struct Place<'a, K, V, L> {
 
 /// Entries of a tree in the order of their keys, from both ends: contracts see the list of those that are left between them. An item
 /// is a share of an entry, or a refusal of that share. An entry takes O(1), and the first one of a block O(log n) in a tree of n
-/// entries. From the back, by `next_back` or `rev`, the last one of a block takes O(log n), and so does an entry between two blocks;
-/// others take O(1) where a block is a plain vector, and time linear in the block's size where it is coded.
+/// entries; but those of a coded block inside which it begins take time linear in the block's size. From the back, by `next_back` or
+/// `rev`, the last one of a block takes O(log n), and so does an entry between two blocks; others take O(1) where a block is a plain
+/// vector, and time linear in the block's size where it is coded.
 #[derive(Drop)]
 pub struct Cursor<'a, M: Shape> {
     pub(crate) alloc: Global,
