@@ -4,8 +4,8 @@ ghost use Rattle.std.specs.Option.{option_map};
 ghost use Rattle.pac_seq.specs.Ends.{last_of};
 
 use crate::seq::SeqOver;
-use aug_monoid::NoMemory;
-use seq_core::{BlockSize, Fold, join, share_item};
+use aug_monoid::{NoMemory, Share};
+use seq_core::{BlockSize, Fold, join};
 use std::alloc::Global;
 
 impl<F: Fold, S: BlockSize> SeqOver<F, S> {
@@ -106,7 +106,7 @@ impl<F: Fold, S: BlockSize> SeqOver<F, S> {
     {
         let mut list = Vec::new(alloc);
         for item in self.iter() {
-            list.push(share_item::<F>(alloc, item))?;
+            list.push(item.share(alloc)?)?;
         }
         Ok(list)
     }

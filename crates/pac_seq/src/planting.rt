@@ -3,8 +3,8 @@ ghost use Rattle.std.specs.Prelude.{◌≡◌, ◌*◌, ◌≤◌, ◌++◌, IfO
 ghost use Rattle.map_model.specs.Balance.{IsBlockSize};
 
 use crate::seq::SeqOver;
-use aug_monoid::NoMemory;
-use seq_core::{BlockSize, Fold, Look, Part, SeqTree, copy_items, join, push_items, share_item};
+use aug_monoid::{NoMemory, Share};
+use seq_core::{BlockSize, Fold, Look, Part, SeqTree, copy_items, join, push_items};
 use std::alloc::Global;
 
 /// The sequence of items, by halves.
@@ -25,7 +25,7 @@ fn planted<F: Fold, S: BlockSize>(
     };
     let left = planted(alloc, front)?;
     let right = planted(alloc, back)?;
-    join(alloc, &left, share_item::<F>(alloc, middle), &right)
+    join(alloc, &left, middle.share(alloc)?, &right)
 }
 
 /// The items of two slices in one vector of just their number.
@@ -65,7 +65,7 @@ fn pushed_to_block<F: Fold, S: BlockSize>(
         unreachable!()
     };
     let back = planted(alloc, rest)?;
-    join(alloc, block, share_item::<F>(alloc, first), &back)
+    join(alloc, block, first.share(alloc)?, &back)
 }
 
 /// The items of a sequence, and then those of a slice.
@@ -86,7 +86,7 @@ fn pushed<F: Fold, S: BlockSize>(
             ..
         } => {
             let back = pushed(alloc, Part { tree: right }, more)?;
-            join(alloc, left, share_item::<F>(alloc, item), &back)
+            join(alloc, left, item.share(alloc)?, &back)
         }
     }
 }

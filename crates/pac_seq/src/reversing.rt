@@ -6,7 +6,7 @@ ghost use Rattle.pac_seq.specs.Reversed.{IsReversed, IsAround};
 use crate::seq::SeqOver;
 use aug_monoid::{NoMemory, Share, Steps};
 use fork_join::{Cut, Divide, Gate, On, Opened, divide, divide_uncounted};
-use seq_core::{BlockSize, Fold, Look, SeqTree, SyncFold, copy_items, join, share_item};
+use seq_core::{BlockSize, Fold, Look, SeqTree, SyncFold, copy_items, join};
 use std::alloc::Global;
 use std::marker::{Send, Sync};
 use std::sync::ledger::Ledger;
@@ -48,7 +48,7 @@ impl<'a, F: Fold, S: BlockSize> Divide<&'a SeqTree<F, S>, F::Item, SeqTree<F, S>
                 right,
                 ..
             } => {
-                let middle = share_item::<F>(alloc, item);
+                let middle = item.share(alloc)?;
                 Ok(Opened::Split(left, middle, right))
             }
         }

@@ -3,7 +3,7 @@ ghost use Rattle.std.specs.Prelude.{◌≡◌, ◌*◌, ◌≤◌, [], ◌∷◌
 ghost use Rattle.map_model.specs.Balance.{IsBlockSize};
 
 use crate::fold::Fold;
-use crate::items::{copy_items, share_item};
+use crate::items::copy_items;
 use crate::joins::join;
 use crate::look::Look;
 use crate::tree::{Part, SeqTree};
@@ -65,7 +65,7 @@ pub fn take<F: Fold, S: BlockSize>(
                 return take(alloc, Part { tree: left }, count);
             }
             let front = take(alloc, Part { tree: right }, count - before - 1)?;
-            join(alloc, left, share_item::<F>(alloc, item), &front)
+            join(alloc, left, item.share(alloc)?, &front)
         }
     }
 }
@@ -99,7 +99,7 @@ pub fn skip<F: Fold, S: BlockSize>(
                 return skip(alloc, Part { tree: right }, count - before - 1);
             }
             let back = skip(alloc, Part { tree: left }, count)?;
-            join(alloc, &back, share_item::<F>(alloc, item), right)
+            join(alloc, &back, item.share(alloc)?, right)
         }
     }
 }
@@ -142,5 +142,5 @@ pub fn append<F: Fold, S: BlockSize>(
         return left.share(alloc);
     };
     let rest = skip(alloc, Part { tree: right }, 1)?;
-    join(alloc, left, share_item::<F>(alloc, item), &rest)
+    join(alloc, left, item.share(alloc)?, &rest)
 }

@@ -43,7 +43,7 @@ pub fn push_items<F: Fold>(
     ensures { IfOk result (λ _. out.new.items ≡ out.old.items ++ from.now) }
 {
     for item in from {
-        out.push(share_item::<F>(alloc, item))?;
+        out.push(item.share(alloc)?)?;
     }
     Ok(())
 }

@@ -4,12 +4,11 @@ ghost use Rattle.map_model.specs.Balance.{weight};
 ghost use Rattle.seq_core.specs.Sides.{beside};
 
 use crate::fold::Fold;
-use crate::items::share_item;
 use crate::sides::{Side, are_small, link_beside, sides_of, weight_of};
 use crate::tree::{Part, SeqTree};
 use crate::turns::repair_beside;
 use crate::width::BlockSize;
-use aug_monoid::NoMemory;
+use aug_monoid::{NoMemory, Share};
 use balance::link_here;
 use std::alloc::Global;
 
@@ -29,7 +28,7 @@ fn join_beside<F: Fold, S: BlockSize>(
     }
     let sides = sides_of(heavy.tree, side);
     let near = join_beside(alloc, side, Part { tree: sides.near }, item, light)?;
-    let middle = share_item::<F>(alloc, sides.item);
+    let middle = sides.item.share(alloc)?;
     repair_beside(alloc, side, sides.far, middle, &near)
 }
 

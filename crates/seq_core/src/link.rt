@@ -3,7 +3,7 @@ ghost use Rattle.std.specs.Prelude.{◌≡◌, ◌+◌, ◌-◌, ◌*◌, ◌<�
 ghost use Rattle.map_model.specs.Balance.{FillsBlock, FillsNode, IsBlockSize, IsBalanced, weight};
 
 use crate::fold::Fold;
-use crate::items::{copy_items, push_items, share_item};
+use crate::items::{copy_items, push_items};
 use crate::look::Look;
 use crate::tree::SeqTree;
 use crate::width::BlockSize;
@@ -51,7 +51,7 @@ impl<F: Fold, S: BlockSize> SeqTree<F, S> {
                 ..
             } => {
                 left.push_to(alloc, out)?;
-                out.push(share_item::<F>(alloc, item))?;
+                out.push(item.share(alloc)?)?;
                 right.push_to(alloc, out)
             }
         }
@@ -100,7 +100,7 @@ impl<F: Fold, S: BlockSize> SeqTree<F, S> {
         };
         let left = Self::copied_block(alloc, front)?;
         let right = Self::copied_block(alloc, back)?;
-        Self::node(alloc, left, share_item::<F>(alloc, middle), right)
+        Self::node(alloc, left, middle.share(alloc)?, right)
     }
 
     /// The sequence of two blocks of which the first is as full as can be, so that the last one has room.

@@ -4,12 +4,12 @@ ghost use Rattle.map_model.specs.Balance.{IsBlockSize};
 
 use crate::changes::{PartMut, refresh};
 use crate::fold::Fold;
-use crate::items::{copy_items, share_item, sum_uncounted};
+use crate::items::{copy_items, sum_uncounted};
 use crate::joins::join;
 use crate::look::Look;
 use crate::tree::{Part, SeqTree, Top};
 use crate::width::BlockSize;
-use aug_monoid::NoMemory;
+use aug_monoid::{NoMemory, Share};
 use std::alloc::Global;
 use std::sync::Arc;
 
@@ -53,7 +53,7 @@ pub fn set_at<F: Fold, S: BlockSize>(
             if place == before {
                 return join(alloc, left, item, right);
             }
-            let middle = share_item::<F>(alloc, middle);
+            let middle = middle.share(alloc)?;
             if place < before {
                 let left = set_at(alloc, Part { tree: left }, place, item)?;
                 join(alloc, &left, middle, right)

@@ -5,11 +5,10 @@ ghost use Rattle.map_model.specs.Balance.{IsBalanced, weight};
 ghost use Rattle.seq_core.specs.Sides.{beside};
 
 use crate::fold::Fold;
-use crate::items::share_item;
 use crate::sides::{Side, Sides, are_small, link_beside, sides_of, weight_of};
 use crate::tree::SeqTree;
 use crate::width::BlockSize;
-use aug_monoid::NoMemory;
+use aug_monoid::{NoMemory, Share};
 use balance::{Turn, balanced, repair};
 use std::alloc::Global;
 
@@ -25,7 +24,7 @@ fn turn_once<F: Fold, S: BlockSize>(
     ensures { IfOk result (λ tree. tree.items ≡ beside side outer.now.items item (beside side near.entry.far.now.items near.entry.item.now near.entry.near.now.items)) }
 {
     let front = link_beside(alloc, side, outer, item, near.far)?;
-    let middle = share_item::<F>(alloc, near.item);
+    let middle = near.item.share(alloc)?;
     link_beside(alloc, side, &front, middle, near.near)
 }
 
@@ -45,9 +44,9 @@ fn turn_twice<F: Fold, S: BlockSize>(
 {
     let inner = sides_of(near.far, side);
     let front = link_beside(alloc, side, outer, item, inner.far)?;
-    let middle = share_item::<F>(alloc, near.item);
+    let middle = near.item.share(alloc)?;
     let back = link_beside(alloc, side, inner.near, middle, near.near)?;
-    let middle = share_item::<F>(alloc, inner.item);
+    let middle = inner.item.share(alloc)?;
     link_beside(alloc, side, &front, middle, &back)
 }
 

@@ -19,8 +19,8 @@ skip-requires-in-Node g t c κs =
     let shorter : length c.in-Node.left.now.items < length c.args.part.tree.now.items = left_shorter _ _ _ _ c.in-Node.ensures.top.items_are in
     search rules
 
-pub returns-in_ok-back-in-Node : goal.returns-in_ok-back-in-Node
-returns-in_ok-back-in-Node g t c =
+pub returns-in_ok-share-in-Node : goal.returns-in_ok-share-in-Node
+returns-in_ok-share-in-Node g t c =
     let within : c.args.count ≤ length c.in-Node.left.now.items = omega (arith, c.if-count-before.false, c.in-Node.ensures.top.before_is) in
     rw (c.in-Node.ensures.top.items_are, drop-append-le c.args.count c.in-Node.left.now.items (c.in-Node.item.now ∷ c.in-Node.right.now.items) within)
-    (rw (c.in_ok-back-in-Node.ensures, c.share_item.ensures) at c.join.ensures)
+    (rw (c.in_ok-back-in-Node.ensures, c.in_ok-share-in-Node.ensures.value) at c.join.ensures)

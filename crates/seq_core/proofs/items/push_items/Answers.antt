@@ -9,5 +9,5 @@ loop-item-preserved g c =
     let from = c.args.from.now in
     let item = c.item-item.result in
     let more : take (at + 1) from ≡ take at from ++ item ∷ [] = take_more from at item c.loop-item-test.true ∙ ap (λ x. take at from ++ x ∷ []) (sym c.item-item.is) in
-    let pushed : c.push.new.self.items ≡ c.loop-item.out.items ++ item ∷ [] = rw c.share_item.ensures at c.in_ok-push.ensures.items in
+    let pushed : c.push.new.self.items ≡ c.loop-item.out.items ++ item ∷ [] = rw c.in_ok-share.ensures.value at c.in_ok-push.ensures.items in
     pushed ∙ ap (λ x. x ++ item ∷ []) c.loop-item.invariant ∙ append_assoc front (take at from) (item ∷ []) ∙ ap (λ x. front ++ x) (sym more)

@@ -27,4 +27,4 @@ repair_beside-requires-clause-not_too_heavy g t c =
 pub returns : goal.returns
 returns g t c =
     rw (c.sides_of-sides.ensures.items, sym (regroup-beside c.args.side c.sides_of-sides.result.far.now.items c.sides_of-sides.result.item.now c.sides_of-sides.result.near.now.items c.args.item c.args.light.now.items))
-    (rw (c.in_ok-near.ensures, c.share_item-middle.ensures) at c.repair_beside.ensures)
+    (rw (c.in_ok-near.ensures, c.in_ok-middle.ensures.value) at c.repair_beside.ensures)

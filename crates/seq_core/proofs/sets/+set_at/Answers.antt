@@ -14,11 +14,11 @@ pub returns-in_ok-left-in-Node : goal.returns-in_ok-left-in-Node
 returns-in_ok-left-in-Node g t c =
     let left = c.in-Node.left.now.items in
     let before : c.args.place < length left = omega (arith, c.if-place-before-2.true, c.in-Node.ensures.top.before_is) in
-    rw (c.in-Node.ensures.top.items_are, set-append_left left (c.in-Node.middle.now ∷ c.in-Node.right.now.items) c.args.place c.args.item before) (rw (c.in_ok-left-in-Node.ensures, c.share_item-middle.ensures) at c.join-then-place-before-2.ensures)
+    rw (c.in-Node.ensures.top.items_are, set-append_left left (c.in-Node.middle.now ∷ c.in-Node.right.now.items) c.args.place c.args.item before) (rw (c.in_ok-left-in-Node.ensures, c.in_ok-middle-in-Node.ensures.value) at c.join-then-place-before-2.ensures)
 
 pub returns-in_ok-right-in-Node : goal.returns-in_ok-right-in-Node
 returns-in_ok-right-in-Node g t c =
     let left = c.in-Node.left.now.items in
     let past : length left < c.args.place = omega (arith, c.if-place-before.false, c.if-place-before-2.false, c.in-Node.ensures.top.before_is) in
     rw (c.in-Node.ensures.top.items_are, set-around left c.in-Node.middle.now c.in-Node.right.now.items c.args.place c.args.item past)
-    (rw (c.in_ok-right-in-Node.ensures, c.share_item-middle.ensures, c.in-Node.ensures.top.before_is) at c.join-else-place-before-2.ensures)
+    (rw (c.in_ok-right-in-Node.ensures, c.in_ok-middle-in-Node.ensures.value, c.in-Node.ensures.top.before_is) at c.join-else-place-before-2.ensures)
