@@ -1,5 +1,5 @@
 //! The value at a key, and maps with one key changed.
-ghost use Rattle.std.specs.Prelude.{◌≡◌, ◌+◌, ◌*◌, ◌≤◌, [], ◌∷◌, IfOk, IsOk};
+ghost use Rattle.std.specs.Prelude.{◌≡◌, ◌+◌, ◌*◌, ◌≤◌, [], ◌∷◌, is_some, IfOk, IsOk};
 ghost use Rattle.std.specs.Option.{option_copied};
 ghost use Rattle.map_model.specs.Entries.{drop_key, lookup, set};
 
@@ -30,6 +30,14 @@ impl<M: Shape> Map<M> {
         ensures cost { steps.new ≤ steps.old + (self.now.height + M.Leaf.FIND) }
     {
         tree_entry::get(alloc, &self.tree, key, steps)
+    }
+
+    /// Whether a key is there, in at most `height + M::Leaf::FIND` steps. It takes no memory, and shares no value.
+    pub fn contains_key<C: Ledger>(&self, key: &M::Key, steps: &mut Steps<C>) -> bool
+        ensures value { result ≡ is_some (lookup M.Key.cmp self.now.entries key.now) }
+        ensures cost { steps.new ≤ steps.old + (self.now.height + M.Leaf.FIND) }
+    {
+        tree_entry::contains_key(&self.tree, key, steps)
     }
 
     /// The map with a key set to a value, in at most `64 * (height + 1) * (B + 2) + M::Leaf::FIND` steps.

@@ -149,11 +149,18 @@ impl Graph {
         neighbours_at(alloc, &self.vertices, vertex)
     }
 
-    /// Whether an edge is there. O(log n) for n vertices.
-    pub fn has_edge(&self, alloc: Global, from: u64, to: u64) -> Result<bool, NoMemory>
+    /// Whether an edge is there. It takes no memory. O(log n) for n vertices.
+    pub fn contains_edge(&self, from: u64, to: u64) -> bool
+        ensures { IsTrue result ↔ Contains self.now (from, to) }
+    {
+        has_edge(&self.vertices, from, to)
+    }
+
+    /// What `contains_edge` answers: it never refuses.
+    pub fn has_edge(&self, _alloc: Global, from: u64, to: u64) -> Result<bool, NoMemory>
         ensures { IfOk result (λ found. IsTrue found ↔ Contains self.now (from, to)) }
     {
-        has_edge(alloc, &self.vertices, from, to)
+        Ok(self.contains_edge(from, to))
     }
 
     /// The graph with these edges too. O(k * log(n * k)) for k edges and n vertices, which forks where the cut allows it, but for

@@ -29,19 +29,14 @@ fn has_vertex(front: &[(u64, u64)], vertex: u64) -> bool
 }
 
 // A vertex of a front with an edge to a vertex.
-fn one_before(
-    alloc: Global,
-    vertices: &Vertices,
-    front: &[(u64, u64)],
-    to: u64,
-) -> Result<u64, NoMemory>
+fn one_before(vertices: &Vertices, front: &[(u64, u64)], to: u64) -> u64
     requires { IsTrue (list_any (λ e. leads vertices.now.entries e.0 to) front.now) }
-    ensures there { IfOk result (λ u. IsTrue (is_some (lookup nat_cmp front.now u))) }
-    ensures edge { IfOk result (λ u. IsTrue (leads vertices.now.entries u to)) }
+    ensures there { IsTrue (is_some (lookup nat_cmp front.now result)) }
+    ensures edge { IsTrue (leads vertices.now.entries result to) }
 {
     for entry in front {
-        if has_edge(alloc, vertices, entry.0, to)? {
-            return Ok(entry.0);
+        if has_edge(vertices, entry.0, to) {
+            return entry.0;
         }
     }
     unreachable!()
@@ -66,7 +61,7 @@ fn back_through(
         let Some(front) = fronts.pop() else {
             unreachable!()
         };
-        present = one_before(alloc, vertices, &front, present)?;
+        present = one_before(vertices, &front, present);
         path.push(present)?;
     }
     path.reverse();

@@ -5,7 +5,7 @@
 //! `bfs` answers what walks from a vertex reach, with the least numbers of edges, `within` what of it is not too far, `path` the
 //! vertices of one walk of least length, and `reversed` turns each edge round. What is called with a runtime and a cut forks where
 //! the cut allows it, and answers the same on any number of threads, as its twin with a name in `_alone` does on one. A call refuses
-//! only for want of memory; `out_degree`, `vertices_iter` and `neighbours_iter` want none, and never refuse.
+//! only for want of memory; `out_degree`, `contains_edge`, `vertices_iter` and `neighbours_iter` want none, and never refuse.
 //!
 //! Tests: `library_tests`. Wrong bodies: here, in `wrong-bodies/`.
 #![tactic(auto)]

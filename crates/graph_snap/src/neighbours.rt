@@ -143,18 +143,12 @@ impl Neighbours {
     }
 
     /// Whether it has an element, with a counter that the caller gives up.
-    pub(crate) fn has<C: Ledger>(
-        &self,
-        alloc: Global,
-        element: u64,
-        blank: Blank,
-    ) -> Result<bool, NoMemory>
+    pub(crate) fn has<C: Ledger>(&self, element: u64, blank: Blank) -> bool
         requires { IsFresh C.name C.parts blank }
-        ensures { IfOk result (λ found. found ≡ is_some (lookup nat_cmp self.now element)) }
+        ensures { result ≡ is_some (lookup nat_cmp self.now element) }
     {
         let mut steps = Steps::<C>::start(blank);
-        let found = self.set.get(alloc, &element, &mut steps)?;
-        Ok(found.is_some())
+        self.set.contains_key(&element, &mut steps)
     }
 
     /// The set of the ends of edges.

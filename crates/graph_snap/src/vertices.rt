@@ -88,16 +88,13 @@ pub(crate) fn neighbours_at(
 }
 
 /// Whether the set of a vertex has an element.
-pub(crate) fn has_edge(
-    alloc: Global,
-    vertices: &Vertices,
-    from: u64,
-    to: u64,
-) -> Result<bool, NoMemory>
-    ensures { IfOk result (λ found. found ≡ is_some (lookup nat_cmp (set_at vertices.now.entries from) to)) }
+pub(crate) fn has_edge(vertices: &Vertices, from: u64, to: u64) -> bool
+    ensures { result ≡ is_some (lookup nat_cmp (set_at vertices.now.entries from) to) }
 {
-    let set = set_at(alloc, vertices, from)?;
-    set.has::<Brand>(alloc, to, Blank::new(1))
+    match set_ref(vertices, from) {
+        Some(set) => set.has::<Brand>(to, Blank::new(1)),
+        None => false,
+    }
 }
 
 /// The map with the edges of another one too.

@@ -63,7 +63,7 @@ impl<E: Key, V: Share> IntervalMap<E, V> {
         self.map.get(alloc, &ends)
     }
 
-    /// Whether the interval from `left` to `right` is there. O(log n). It makes a share of its value, and refuses where that refuses.
+    /// Whether the interval from `left` to `right` is there. O(log n). It makes shares of the two ends, and refuses where these refuse.
     pub fn contains(&self, alloc: Global, left: &E, right: &E) -> Result<bool, NoMemory>
         ensures value { IfOk result (λ found. IsTrue found ↔ Contains (keys_of self.now) (span left.now right.now)) }
         ensures succeeds { E.never_refuses → V.never_refuses → IsOk result }

@@ -285,15 +285,26 @@ fn neighbours_and_edges_that_are_there(rt: HostRuntime) {
     assert_eq!(rt; graph.has_edge(alloc, 3, 3).expect(&rt, "memory"), true);
     assert_eq!(rt; graph.has_edge(alloc, 2, 3).expect(&rt, "memory"), false);
     assert_eq!(rt; graph.has_edge(alloc, 9, 1).expect(&rt, "memory"), false);
+    assert!(rt; graph.contains_edge(3, 3));
+    assert!(rt; !graph.contains_edge(2, 3));
 }
 
-/// The items of an iterator.
-fn collected<R: Abort, I: Iterator<Item = u64>>(rt: &R, alloc: Global, iter: I) -> Vec<u64> {
-    let mut items = Vec::new(alloc);
-    for item in iter {
-        items.push(item).expect(rt, "memory");
+/// The vertices with an out-neighbour, one by one.
+fn vertices_in<R: Abort>(rt: &R, alloc: Global, graph: &Graph) -> Vec<u64> {
+    let mut vertices = Vec::new(alloc);
+    for vertex in graph.vertices_iter() {
+        vertices.push(vertex).expect(rt, "memory");
     }
-    items
+    vertices
+}
+
+/// The out-neighbours of a vertex, one by one.
+fn neighbours_in<R: Abort>(rt: &R, alloc: Global, graph: &Graph, vertex: u64) -> Vec<u64> {
+    let mut neighbours = Vec::new(alloc);
+    for neighbour in graph.neighbours_iter(alloc, vertex) {
+        neighbours.push(neighbour).expect(rt, "memory");
+    }
+    neighbours
 }
 
 #[test]
@@ -302,10 +313,13 @@ fn vertices_and_neighbours_one_by_one(rt: HostRuntime) {
     let graph = graph_of(&rt, alloc, &ADDED, &[]);
     assert_eq!(rt; graph.out_degree(2), 2);
     assert_eq!(rt; graph.out_degree(9), 0);
-    let vertices = collected(&rt, alloc, graph.vertices_iter());
-    assert_eq!(rt; vertices.as_slice(), [1, 2, 3].as_slice());
-    let of_two = collected(&rt, alloc, graph.neighbours_iter(alloc, 2));
-    assert_eq!(rt; of_two.as_slice(), [1, 4].as_slice());
-    let of_nine = collected(&rt, alloc, graph.neighbours_iter(alloc, 9));
-    assert_eq!(rt; of_nine.len(), 0);
+    assert_eq!(rt;
+        vertices_in(&rt, alloc, &graph).as_slice(),
+        [1, 2, 3].as_slice()
+    );
+    assert_eq!(rt;
+        neighbours_in(&rt, alloc, &graph, 2).as_slice(),
+        [1, 4].as_slice()
+    );
+    assert_eq!(rt; neighbours_in(&rt, alloc, &graph, 9).len(), 0);
 }

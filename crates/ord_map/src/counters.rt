@@ -1,5 +1,5 @@
 //! Calls that count their steps, each with a counter of its own.
-ghost use Rattle.std.specs.Prelude.{◌≡◌, [], ◌∷◌, IfOk, IsOk, OnErr, length};
+ghost use Rattle.std.specs.Prelude.{◌≡◌, [], ◌∷◌, IfOk, IsOk, OnErr, is_some, length};
 ghost use Rattle.std.specs.Option.{option_copied};
 ghost use Rattle.map_model.specs.Entries.{drop_key, lookup, set};
 ghost use Rattle.map_model.specs.Fold.{fold_of, range_fold};
@@ -38,6 +38,19 @@ pub(crate) fn get_ref<'a, A: Augment, C: Ledger>(
 {
     let mut steps = Steps::<C>::start(blank);
     map.get_ref(key, &mut steps)
+}
+
+/// Whether a key is there.
+pub(crate) fn contains_key<A: Augment, C: Ledger>(
+    map: &PlainMap<A>,
+    key: &A::Key,
+    blank: Blank,
+) -> bool
+    requires { IsFresh C.name C.parts blank }
+    ensures { result ≡ is_some (lookup A.Key.cmp map.now.entries key.now) }
+{
+    let mut steps = Steps::<C>::start(blank);
+    map.contains_key(key, &mut steps)
 }
 
 /// Sets a key to a value.

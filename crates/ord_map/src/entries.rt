@@ -34,15 +34,15 @@ impl<A: Augment> OrdMap<A> {
         counters::get_ref::<A, Brand>(&self.map, key, Blank::new(1))
     }
 
-    /// Whether the key is there, in O(log n). It makes a share of the key's value, and refuses where that refuses.
+    /// Whether the key is there, in O(log n). It takes no memory, and shares no value.
     ///
     ///     let map = Sums::from_pairs(alloc, &[(1, 10), (2, 20)])?;
     ///     map.contains_key(alloc, &3)?     // false
-    pub fn contains_key(&self, alloc: Global, key: &A::Key) -> Result<bool, NoMemory>
+    pub fn contains_key(&self, _alloc: Global, key: &A::Key) -> Result<bool, NoMemory>
         ensures value { IfOk result (λ yes. yes ≡ is_some (lookup A.Key.cmp self.now key.now)) }
         ensures succeeds { A.Key.never_refuses → A.Val.never_refuses → IsOk result }
     {
-        Ok(self.get(alloc, key)?.is_some())
+        Ok(counters::contains_key::<A, Brand>(&self.map, key, Blank::new(1)))
     }
 
     /// The value at a key, or `default` where the key is not there, in O(log n).

@@ -1,5 +1,5 @@
 //! The value at a key.
-ghost use Rattle.std.specs.Prelude.{◌≡◌, ◌+◌, ◌≤◌, length, IfOk, IsOk};
+ghost use Rattle.std.specs.Prelude.{◌≡◌, ◌+◌, ◌≤◌, is_some, length, IfOk, IsOk};
 ghost use Rattle.std.specs.Option.{option_copied};
 ghost use Rattle.map_model.specs.Entries.{IsIncreasing, lookup};
 
@@ -110,4 +110,41 @@ fn ref_in_leaf<'a, K: Key + 'a, V: Share, L: LeafRef<K, V>, C: Ledger>(
         Some(entry) => Some(&entry.1),
         None => None,
     }
+}
+
+/// Whether a key is there. At most `height + M::Leaf::FIND` steps. It takes no memory, and shares no value.
+pub fn contains_key<M: Shape, C: Ledger>(tree: &Tree<M>, key: &M::Key, steps: &mut Steps<C>) -> bool
+    ensures value { result ≡ is_some (lookup M.Key.cmp tree.now.entries key.now) }
+    ensures cost { steps.new ≤ steps.old + (tree.now.height + M.Leaf.FIND) }
+{
+    // A loop, as in `get`.
+    let mut part = tree;
+    'down: loop {
+        match part.look() {
+            Look::Empty => return false,
+            Look::Block { leaf } => return is_in_leaf(leaf, key, steps),
+            Look::Node {
+                left,
+                key: node_key,
+                right,
+                ..
+            } => match key.order(node_key, steps) {
+                Ordering::Less => part = left,
+                Ordering::Equal => return true,
+                Ordering::Greater => part = right,
+            },
+        }
+    }
+}
+
+fn is_in_leaf<K: Key, V: Share, L: Leaf<K, V>, C: Ledger>(
+    leaf: &L,
+    key: &K,
+    steps: &mut Steps<C>,
+) -> bool
+    requires { length (L.entries leaf.now) ≤ 256 }
+    ensures value { result ≡ is_some (lookup K.cmp (L.entries leaf.now) key.now) }
+    ensures cost { steps.new ≤ steps.old + L.FIND }
+{
+    leaf.seek(key, steps).hit
 }

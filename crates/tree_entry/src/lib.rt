@@ -15,5 +15,5 @@ mod puts;
 mod sides;
 
 pub use dels::del;
-pub use gets::{get, get_ref};
+pub use gets::{contains_key, get, get_ref};
 pub use puts::{put, put_sought, single};

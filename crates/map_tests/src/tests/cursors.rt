@@ -98,37 +98,77 @@ fn assert_walked<R: Abort, L: Leaf<u64, u64>>(rt: &R, alloc: Global, count: u64)
     assert_walked_counted::<R, L, Brand>(rt, alloc, &entries, Blank::new(1));
 }
 
-/// The entries that a map lends, and of one call more.
+/// The entries that a map lends.
 fn lent<R: Abort>(rt: &R, alloc: Global, map: &Sums<PlainLeaf<u64, u64>, 32>) -> Entries {
     let mut entries = Vec::new(alloc);
-    let mut iter = map.iter_ref();
-    while let Some((key, val)) = iter.next() {
-        entries.push((*key, *val)).expect(rt, "memory");
+    let mut lending = map.iter_ref();
+    while let Some(entry) = lending.next() {
+        entries.push((*entry.0, *entry.1)).expect(rt, "memory");
     }
-    assert!(rt; iter.next().is_none());
+    assert!(rt; lending.next().is_none());
     entries
 }
 
 /// Asserts that a map of these entries, whose keys are multiples of 3, lends each, and nothing at the keys between.
-fn assert_lent<R: Abort, C: Ledger>(rt: &R, alloc: Global, entries: &[(u64, u64)], blank: Blank)
+fn assert_lent_counted<R: Abort, C: Ledger>(
+    rt: &R,
+    alloc: Global,
+    entries: &[(u64, u64)],
+    blank: Blank,
+)
     requires { IsFresh C.name C.parts blank }
 {
     let mut steps = Steps::<C>::start(blank);
     let map = map_of::<R, PlainLeaf<u64, u64>, 32, C>(rt, alloc, entries, &mut steps);
     assert_eq!(rt; lent(rt, alloc, &map).as_slice(), entries);
     for entry in entries {
-        let found = map.get_ref(&entry.0, &mut steps);
-        assert_eq!(rt; found.copied(), Some(entry.1));
+        let found = map.get_ref(&entry.0, &mut steps).copied();
+        assert_eq!(rt; found, Some(entry.1));
         let behind = entry.0.wrapping_add(1);
         assert!(rt; map.get_ref(&behind, &mut steps).is_none());
     }
 }
 
+fn assert_lent<R: Abort>(rt: &R, alloc: Global, count: u64) {
+    let entries = thirds(rt, alloc, count);
+    assert_lent_counted::<R, Brand>(rt, alloc, &entries, Blank::new(1));
+}
+
 #[test]
 fn a_map_in_plain_blocks_lends_its_values(rt: HostRuntime) {
     for count in [0, 1, 64, 65, 1000] {
-        let entries = thirds(&rt, rt.alloc(), count);
-        assert_lent::<HostRuntime, Brand>(&rt, rt.alloc(), &entries, Blank::new(1));
+        assert_lent(&rt, rt.alloc(), count);
+    }
+}
+
+/// Asserts that a map of these entries, whose keys are multiples of 3, has each key and none between.
+fn assert_keys_counted<R: Abort, L: Leaf<u64, u64>, C: Ledger>(
+    rt: &R,
+    alloc: Global,
+    entries: &[(u64, u64)],
+    blank: Blank,
+)
+    requires { IsFresh C.name C.parts blank }
+{
+    let mut steps = Steps::<C>::start(blank);
+    let map = map_of::<R, L, 32, C>(rt, alloc, entries, &mut steps);
+    for entry in entries {
+        assert!(rt; map.contains_key(&entry.0, &mut steps));
+        let behind = entry.0.wrapping_add(1);
+        assert!(rt; !map.contains_key(&behind, &mut steps));
+    }
+}
+
+fn assert_keys<R: Abort, L: Leaf<u64, u64>>(rt: &R, alloc: Global, count: u64) {
+    let entries = thirds(rt, alloc, count);
+    assert_keys_counted::<R, L, Brand>(rt, alloc, &entries, Blank::new(1));
+}
+
+#[test]
+fn a_map_has_its_keys_and_no_others(rt: HostRuntime) {
+    for count in [0, 1, 65, 1000] {
+        assert_keys::<HostRuntime, PlainLeaf<u64, u64>>(&rt, rt.alloc(), count);
+        assert_keys::<HostRuntime, DiffLeaf<u64>>(&rt, rt.alloc(), count);
     }
 }
 

@@ -13,13 +13,13 @@ unreachable-requires c =
     let none : length c.back.fronts.items ≤ 0 = omega (arith, c.in_default.ensures.cases.0) in
     c.back-test.true (back_started (edges_of c.args.vertices.now.entries) c.args.from c.args.to c.back.present (map (λ f. f.items) c.back.fronts.items) c.back.path.items c.back.invariant (none_mapped (λ f. f.items) c.back.fronts.items none))
 
-pub one_before-requires : goal.one_before-requires
-one_before-requires c =
+pub one_before-present-requires : goal.one_before-present-requires
+one_before-present-requires c =
     some_before c.args.vertices.now.entries c.requires.sets c.args.from c.args.to c.back.present (map (λ f. f.items) c.back.fronts.items) (map (λ f. f.items) c.pop.new.self.items) c.in-Some.front.items c.deref.result.now c.back.path.items c.back.invariant (mapped_last (λ f. f.items) c.back.fronts.items c.pop.new.self.items c.in-Some.front c.in-Some.ensures.items) c.deref.ensures.value
 
 pub back-preserved : goal.back-preserved
 back-preserved c =
-    back_goes_on c.args.vertices.now.entries c.requires.sets c.args.from c.args.to c.back.present c.in_ok-present.present (map (λ f. f.items) c.back.fronts.items) (map (λ f. f.items) c.pop.new.self.items) c.in-Some.front.items c.deref.result.now c.back.path.items c.push-in-back.new.self.items c.back.invariant (mapped_last (λ f. f.items) c.back.fronts.items c.pop.new.self.items c.in-Some.front c.in-Some.ensures.items) c.deref.ensures.value c.in_ok-present.ensures.there c.in_ok-present.ensures.edge c.in_ok-push-2.ensures.items
+    back_goes_on c.args.vertices.now.entries c.requires.sets c.args.from c.args.to c.back.present c.one_before-present.result (map (λ f. f.items) c.back.fronts.items) (map (λ f. f.items) c.pop.new.self.items) c.in-Some.front.items c.deref.result.now c.back.path.items c.push-in-back.new.self.items c.back.invariant (mapped_last (λ f. f.items) c.back.fronts.items c.pop.new.self.items c.in-Some.front c.in-Some.ensures.items) c.deref.ensures.value c.one_before-present.ensures.there c.one_before-present.ensures.edge c.in_ok-push-2.ensures.items
 
 pub returns : goal.returns
 returns c = back_ends (edges_of c.args.vertices.now.entries) c.args.from c.args.to c.back.present (map (λ f. f.items) c.back.fronts.items) c.back.path.items _ c.back.invariant c.back-test.false (search rules)

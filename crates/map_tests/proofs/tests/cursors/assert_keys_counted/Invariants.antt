@@ -1,0 +1,4 @@
+use Rattle.map_tests.proofs.tests.cursors.assert_keys_counted.Given as goal
+
+abbrev pub invariant-loop-entry : goal.invariant-loop-entry
+invariant-loop-entry g l = Unit {0}
