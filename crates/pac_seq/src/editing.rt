@@ -5,7 +5,7 @@ ghost use Rattle.pac_seq.specs.Ends.{last_of};
 
 use crate::seq::SeqOver;
 use aug_monoid::{NoMemory, Share};
-use seq_core::{BlockSize, Fold, join};
+use seq_core::{BlockSize, Fold, SureFold, join};
 use std::alloc::Global;
 
 impl<F: Fold, S: BlockSize> SeqOver<F, S> {
@@ -64,27 +64,13 @@ impl<F: Fold, S: BlockSize> SeqOver<F, S> {
         seq_core::push_mut(alloc, &mut self.tree, item)
     }
 
-    /// The first item; none exactly where there are no items. It takes no memory. O(log n).
-    pub fn first(&self, alloc: Global) -> Option<F::Item>
-        ensures { result ≡ slice_get self.now.items 0 }
-    {
-        self.at(alloc, 0)
-    }
-
-    /// The last item; none exactly where there are no items. It takes no memory. O(log n).
-    pub fn last(&self, alloc: Global) -> Option<F::Item>
-        ensures { result ≡ last_of self.now.items }
-    {
-        self.at(alloc, self.size().saturating_sub(1))
-    }
-
     /// The first item, and the sequence of the others; none exactly where there are no items. O(log n + B).
     pub fn split_first(&self, alloc: Global) -> Result<Option<(F::Item, SeqOver<F, S>)>, NoMemory>
         ensures item { IfOk result (λ parts. option_map (λ p. p.0) parts ≡ slice_get self.now.items 0) }
         ensures rest { IfOk result (λ parts. IfSome parts (λ p. p.1.items ≡ drop 1 self.now.items)) }
     {
-        match self.first(alloc) {
-            Some(item) => Ok(Some((item, self.skip(alloc, 1)?))),
+        match self.get(0) {
+            Some(item) => Ok(Some((item.share(alloc)?, self.skip(alloc, 1)?))),
             None => Ok(None),
         }
     }
@@ -94,8 +80,9 @@ impl<F: Fold, S: BlockSize> SeqOver<F, S> {
         ensures item { IfOk result (λ parts. option_map (λ p. p.0) parts ≡ last_of self.now.items) }
         ensures rest { IfOk result (λ parts. IfSome parts (λ p. p.1.items ≡ take (length self.now.items - 1) self.now.items)) }
     {
-        match self.last(alloc) {
-            Some(item) => Ok(Some((item, self.take(alloc, self.size().saturating_sub(1))?))),
+        let before = self.size().saturating_sub(1);
+        match self.get(before) {
+            Some(item) => Ok(Some((item.share(alloc)?, self.take(alloc, before)?))),
             None => Ok(None),
         }
     }
@@ -109,5 +96,21 @@ impl<F: Fold, S: BlockSize> SeqOver<F, S> {
             list.push(item.share(alloc)?)?;
         }
         Ok(list)
+    }
+}
+
+impl<F: SureFold, S: BlockSize> SeqOver<F, S> {
+    /// The first item; none exactly where there are no items. It takes no memory. O(log n).
+    pub fn first(&self, alloc: Global) -> Option<F::Item>
+        ensures { result ≡ slice_get self.now.items 0 }
+    {
+        self.at(alloc, 0)
+    }
+
+    /// The last item; none exactly where there are no items. It takes no memory. O(log n).
+    pub fn last(&self, alloc: Global) -> Option<F::Item>
+        ensures { result ≡ last_of self.now.items }
+    {
+        self.at(alloc, self.size().saturating_sub(1))
     }
 }

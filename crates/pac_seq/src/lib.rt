@@ -24,4 +24,4 @@ pub use cross::seq_crosses;
 pub use cursor::{Cursor, CursorOver};
 pub use finding::{SumFrom, SumTest};
 pub use seq::{Seq, SeqOver};
-pub use seq_core::{BlockSize, Ends, Fold, SumTop, SyncFold, Width};
+pub use seq_core::{BlockSize, Ends, Fold, SumTop, SureFold, SyncFold, Width};

@@ -1,10 +1,11 @@
 //! Single items by their places.
 ghost use Rattle.std.specs.Prelude.{◌≡◌, ◌<◌, ◌≤◌, ◌↔◌, Some, drop, take, length, slice_get, slice_set, IfOk, IsNone, OnErr};
+ghost use Rattle.std.specs.Option.{option_copied};
 ghost use Rattle.pac_seq.specs.Seats.{IsBack, IsFront, before_in, items_at};
 
 use crate::seq::SeqOver;
 use aug_monoid::NoMemory;
-use seq_core::{BlockSize, Fold, Look, Part, SeqTree, set_at, share_item};
+use seq_core::{BlockSize, Fold, Look, Part, SeqTree, SureFold, set_at, share_item};
 use std::alloc::Global;
 
 /// Where an item stands: in a block, first of `items` and behind those before it, or between the sides of a node.
@@ -67,17 +68,16 @@ fn item_at<'a, F: Fold, S: BlockSize>(tree: &'a SeqTree<F, S>, place: u64) -> &'
 }
 
 impl<F: Fold, S: BlockSize> SeqOver<F, S> {
-    /// The item at a place, counted from 0; none exactly where the place is at least the size. It takes no memory. O(log n) in n
-    /// items.
-    pub fn at(&self, alloc: Global, place: u64) -> Option<F::Item>
-        ensures value { result ≡ slice_get self.now.items place }
+    /// Lends the item at a place, counted from 0; none exactly where the place is at least the size. It takes no memory. O(log n) in
+    /// n items.
+    pub fn get(&self, place: u64) -> Option<&F::Item>
+        ensures value { option_copied result ≡ slice_get self.now.items place }
         ensures none { IsNone result ↔ (length self.now.items ≤ place) }
     {
-        if place < self.tree.size() {
-            Some(share_item::<F>(alloc, item_at(&self.tree, place)))
-        } else {
-            None
+        if place >= self.tree.size() {
+            return None;
         }
+        Some(item_at(&self.tree, place))
     }
 
     /// The same items with another at a place, which copies one path and one block. O(log n + B) in n items.
@@ -99,5 +99,20 @@ impl<F: Fold, S: BlockSize> SeqOver<F, S> {
         ensures kept { OnErr result (self.new ≡ self.old) }
     {
         seq_core::set_mut(alloc, &mut self.tree, place, item)
+    }
+}
+
+impl<F: SureFold, S: BlockSize> SeqOver<F, S> {
+    /// The item at a place, counted from 0, of which the caller is another owner; none exactly where the place is at least the size.
+    /// It takes no memory. O(log n) in n items.
+    pub fn at(&self, alloc: Global, place: u64) -> Option<F::Item>
+        ensures value { result ≡ slice_get self.now.items place }
+        ensures none { IsNone result ↔ (length self.now.items ≤ place) }
+    {
+        if place < self.tree.size() {
+            Some(share_item::<F>(alloc, item_at(&self.tree, place)))
+        } else {
+            None
+        }
     }
 }

@@ -2,7 +2,7 @@
 ghost use Rattle.std.specs.Prelude.{◌≡◌, ◌+◌, Some, None};
 ghost use Rattle.seq_core.specs.Ends.{ends_of, ends_combined, ends_monoid};
 
-use crate::fold::Fold;
+use crate::fold::{Fold, SureFold};
 use aug_monoid::{Pair64, Steps};
 use std::sync::ledger::Ledger;
 
@@ -26,8 +26,6 @@ impl Fold for Ends {
     ghost image_fits = { λ _. tt };
 
     ghost monoid = { ends_monoid };
-
-    ghost items_never_refuse = { tt };
 
     ghost sums_never_refuse = { tt };
 
@@ -57,4 +55,8 @@ impl Fold for Ends {
             }),
         }
     }
+}
+
+impl SureFold for Ends {
+    ghost items_never_refuse = { tt };
 }

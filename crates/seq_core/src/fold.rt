@@ -39,9 +39,12 @@ pub trait Fold: Drop {
 
     ghost monoid: { IsMonoidOver Fits unit_of combined };
 
-    ghost items_never_refuse: { Self.Item.never_refuses };
-
     ghost sums_never_refuse: { Self.Sum.never_refuses };
+}
+
+/// A `Fold` of items whose shares never refuse.
+pub trait SureFold: Fold {
+    ghost items_never_refuse: { Self.Item.never_refuses };
 }
 
 /// A `Fold` whose items and sums are sent to and shared among threads.

@@ -3,7 +3,7 @@ ghost use Rattle.std.specs.Prelude.{◌≡◌, ◌+◌, ◌≤◌, ◌++◌, IfO
 ghost use Rattle.seq_core.specs.Sums.{sum_of};
 ghost use Rattle.aug_monoid.specs.Fresh.{IsFresh};
 
-use crate::fold::Fold;
+use crate::fold::{Fold, SureFold};
 use aug_monoid::{NoMemory, Share, Steps};
 use std::alloc::Global;
 use std::marker::Brand;
@@ -21,7 +21,7 @@ fn another<T: Share>(alloc: Global, value: &T) -> T
 }
 
 /// Another owner of an item. It takes no memory. O(1).
-pub fn share_item<F: Fold>(alloc: Global, item: &F::Item) -> F::Item
+pub fn share_item<F: SureFold>(alloc: Global, item: &F::Item) -> F::Item
     ensures { result ≡ item.now }
 {
     another(alloc, item)

@@ -29,7 +29,7 @@ mod width;
 
 pub use cuts::{append, skip, take};
 pub use ends::Ends;
-pub use fold::{Fold, SyncFold};
+pub use fold::{Fold, SureFold, SyncFold};
 pub use items::{copy_items, push_items, share_item, sum_items};
 pub use joins::join;
 pub use look::Look;

@@ -2,7 +2,7 @@
 ghost use Rattle.std.specs.Prelude.{◌≡◌, ◌+◌};
 ghost use Rattle.aug_monoid.specs.Totals.{TotalsFit, totals_base, totals_unit, totals_combine, totals_monoid, totals_base_fits};
 
-use crate::fold::Fold;
+use crate::fold::{Fold, SureFold};
 use aug_monoid::{Steps, Totals};
 use std::sync::ledger::Ledger;
 
@@ -27,8 +27,6 @@ impl Fold for SumTop {
 
     ghost monoid = { totals_monoid };
 
-    ghost items_never_refuse = { tt };
-
     ghost sums_never_refuse = { tt };
 
     fn of(item: &u64) -> Totals {
@@ -52,4 +50,8 @@ impl Fold for SumTop {
             greatest: a.greatest.max(b.greatest),
         }
     }
+}
+
+impl SureFold for SumTop {
+    ghost items_never_refuse = { tt };
 }

@@ -3,7 +3,7 @@ ghost use Rattle.std.specs.Prelude.{◌≡◌, ◌+◌, IsTrue};
 ghost use Rattle.aug_monoid.specs.Totals.{TotalsFit, totals_base, totals_unit, totals_combine, totals_monoid, totals_base_fits};
 
 use aug_monoid::{NoMemory, Share, Steps, Totals};
-use pac_seq::{Fold, Seq, SeqOver};
+use pac_seq::{Fold, Seq, SeqOver, SureFold};
 use std::alloc::Global;
 use std::marker::{Model, PhantomData};
 use std::process::Abort;
@@ -75,8 +75,6 @@ impl<'a> Fold for CountedTop<'a> {
 
     ghost monoid = { totals_monoid };
 
-    ghost items_never_refuse = { tt };
-
     ghost sums_never_refuse = { tt };
 
     fn of(item: &Counted<'a>) -> Totals {
@@ -106,6 +104,10 @@ impl<'a> Fold for CountedTop<'a> {
             greatest: a.greatest.max(b.greatest),
         }
     }
+}
+
+impl<'a> SureFold for CountedTop<'a> {
+    ghost items_never_refuse = { tt };
 }
 
 type Numbers<'a> = Seq<CountedTop<'a>, 32>;

@@ -7,7 +7,7 @@ ghost use Rattle.aug_monoid.specs.Fresh.{IsFresh};
 
 use anyhow::Result;
 use aug_monoid::{Share, Steps};
-use pac_seq::{Fold, Seq, SeqOver, SumTest};
+use pac_seq::{Fold, Seq, SeqOver, SumTest, SureFold};
 use std::alloc::Global;
 use std::marker::Brand;
 use std::sync::ledger::{Blank, Ledger};
@@ -33,8 +33,6 @@ impl Fold for LineFeeds {
 
     ghost monoid = { record { unit_fits = Prim.omega arith; combine_fits = λ a b f g. Prim.omega arith; left_unit = λ a f. Prim.omega arith; right_unit = λ a f. Prim.omega arith; assoc = λ a b c f g h. Prim.omega arith } };
 
-    ghost items_never_refuse = { tt };
-
     ghost sums_never_refuse = { tt };
 
     fn of(byte: &u8) -> u64 {
@@ -49,6 +47,10 @@ impl Fold for LineFeeds {
         steps.tick();
         a.saturating_add(*b)
     }
+}
+
+impl SureFold for LineFeeds {
+    ghost items_never_refuse = { tt };
 }
 
 /// At least so many line feeds.
