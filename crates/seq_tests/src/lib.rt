@@ -8,6 +8,8 @@ mod borders;
 #[cfg(test)]
 mod both_ends;
 #[cfg(test)]
+mod counts;
+#[cfg(test)]
 mod editing;
 #[cfg(test)]
 mod examples;
@@ -21,3 +23,5 @@ mod in_place;
 mod lists;
 #[cfg(test)]
 mod sharing;
+#[cfg(test)]
+mod single;
