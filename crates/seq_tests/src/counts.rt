@@ -1,9 +1,10 @@
 //! Items of any kind, which are counted.
-ghost use Rattle.std.specs.Prelude.{◌≡◌, ◌+◌, ◌-◌, ◌^◌, ◌≤◌, min};
+ghost use Rattle.std.specs.Prelude.{◌≡◌, ◌+◌, ◌-◌, ◌^◌, ◌≤◌, min, nat_le};
 ghost use Rattle.std.proofs.Common.{arith};
+ghost use Rattle.std.proofs.lemmas.Bool.Decides.{nat_tests};
 
 use aug_monoid::{Share, Steps};
-use pac_seq::Fold;
+use pac_seq::{Fold, SumTest};
 use std::marker::PhantomData;
 use std::sync::ledger::Ledger;
 
@@ -43,5 +44,21 @@ impl<T: Share> Fold for Count<T> {
     fn combine<C: Ledger>(a: &u64, b: &u64, steps: &mut Steps<C>) -> u64 {
         steps.tick();
         a.saturating_add(*b)
+    }
+}
+
+/// At least so many items.
+#[derive(Drop)]
+pub(crate) struct CountFrom {
+    pub(crate) least: u64,
+}
+
+impl<T: Share> SumTest<Count<T>> for CountFrom {
+    ghost admits = { λ test count. nat_le test.least count };
+
+    ghost stays = { λ test a b f g passed. Prim.grind (arith, nat_tests) };
+
+    fn passes(&self, count: &u64) -> bool {
+        self.least <= *count
     }
 }

@@ -25,3 +25,5 @@ mod lists;
 mod sharing;
 #[cfg(test)]
 mod single;
+#[cfg(test)]
+mod texts;

@@ -72,3 +72,12 @@ fn a_change_of_what_has_one_owner_shares_nothing(rt: HostRuntime) {
         .expect(&rt, "memory");
     assert_eq!(rt; numbers(&seq), (Some(30), Some(20), None));
 }
+
+#[test]
+fn a_list_and_an_end_are_refused(rt: HostRuntime) {
+    let alloc = rt.alloc();
+    let seq = two(&rt, alloc);
+    assert!(rt; seq.to_vec(alloc).is_err());
+    assert!(rt; seq.split_first(alloc).is_err());
+    assert!(rt; seq.split_last(alloc).is_err());
+}
