@@ -10,7 +10,9 @@ use std::alloc::Global;
 /// An interval, by its two ends: ordered by the left one and then by the right one.
 #[derive(Drop, Debug, PartialEq, Eq, PartialOrd, Ord)]
 pub struct Span<E> {
+    /// The end where the interval begins.
     pub left: E,
+    /// The end where it ends.
     pub right: E,
 }
 

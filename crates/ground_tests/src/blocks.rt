@@ -135,3 +135,19 @@ pub(crate) fn between_none<R: Abort, L: Leaf<u64, u64>>(rt: &R, alloc: Global) -
     let back = leaf.back(alloc, 1).expect(rt, "memory");
     back.concat3(alloc, 7, 1, &none).expect(rt, "memory")
 }
+
+/// The same as `rejoined`, of parts that are taken over.
+pub(crate) fn rejoined_owned<R: Abort, L: Leaf<u64, u64>>(rt: &R, alloc: Global) -> L {
+    let leaf = L::from_entries(alloc, &[(5, 1), (7, 2)]).expect(rt, "memory");
+    let front = leaf.front(alloc, 1).expect(rt, "memory");
+    let back = leaf.back(alloc, 1).expect(rt, "memory");
+    front.concat3_owned(alloc, 6, 4, back).expect(rt, "memory")
+}
+
+/// What stands before and after the second entry of the leaf of 5,1 7,2 300,3, which is cut there.
+pub(crate) fn cut_apart<R: Abort, L: Leaf<u64, u64>>(rt: &R, alloc: Global) -> (L, L) {
+    let leaf = L::from_entries(alloc, &[(5, 1), (7, 2), (300, 3)]).expect(rt, "memory");
+    let (front, (key, val), back) = leaf.cut(alloc, 1).expect(rt, "memory");
+    assert_eq!(rt; (key, val), (7, 2));
+    (front, back)
+}

@@ -1,8 +1,8 @@
 //! The bytes of small blocks, worked out by hand, and such blocks through their trait.
 
 use crate::blocks::{
-    assert_seeks, assert_shares, assert_walk, between_none, grown, inserted, lessened, one,
-    rejoined, replaced, shrunk, walked,
+    assert_seeks, assert_shares, assert_walk, between_none, cut_apart, grown, inserted, lessened,
+    one, rejoined, rejoined_owned, replaced, shrunk, walked,
 };
 use aug_monoid::{Leaf, owned};
 use diff_leaf::{DiffLeaf, leaf_crosses};
@@ -58,6 +58,10 @@ fn a_value_after_each_gap(rt: HostRuntime) {
     let alloc = rt.alloc();
     assert_code(&rt, one(&rt, alloc), b"\x05\xac\x02");
     assert_code(&rt, rejoined(&rt, alloc), b"\x05\x01\x01\x04\x01\x02");
+    assert_code(&rt, rejoined_owned(&rt, alloc), b"\x05\x01\x01\x04\x01\x02");
+    let (front, back) = cut_apart(&rt, alloc);
+    assert_code(&rt, front, b"\x05\x01");
+    assert_code(&rt, back, b"\xac\x02\x03");
     assert_code(&rt, between_none(&rt, alloc), b"\x07\x01");
 }
 

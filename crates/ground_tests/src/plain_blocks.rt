@@ -1,8 +1,8 @@
 //! Plain blocks of a few entries.
 
 use crate::blocks::{
-    assert_seeks, assert_shares, assert_walk, between_none, grown, inserted, lessened, one,
-    rejoined, replaced, shrunk, walked,
+    assert_seeks, assert_shares, assert_walk, between_none, cut_apart, grown, inserted, lessened,
+    one, rejoined, rejoined_owned, replaced, shrunk, walked,
 };
 use aug_monoid::{Leaf, Pair64, owned};
 use leaf_blocks::{PlainLeaf, leaf_crosses};
@@ -38,6 +38,9 @@ fn keys_are_found_at_their_places(rt: HostRuntime) {
 fn a_block_has_room_for_its_entries_alone(rt: HostRuntime) {
     let leaf = five(&rt, rt.alloc());
     assert_eq!(rt; leaf.into_entries().capacity(), 5);
+    let (front, back): (Numbers, Numbers) = cut_apart(&rt, rt.alloc());
+    assert_eq!(rt; front.into_entries().capacity(), 1);
+    assert_eq!(rt; back.into_entries().capacity(), 1);
 }
 
 #[test]
@@ -84,6 +87,10 @@ const ONE: &[(u64, u64)] = &[(5, 300)];
 
 const REJOINED: &[(u64, u64)] = &[(5, 1), (6, 4), (7, 2)];
 
+const FRONT: &[(u64, u64)] = &[(5, 1)];
+
+const BACK: &[(u64, u64)] = &[(300, 3)];
+
 const BETWEEN_NONE: &[(u64, u64)] = &[(7, 1)];
 
 #[test]
@@ -91,6 +98,10 @@ fn parts_are_put_together_again(rt: HostRuntime) {
     let alloc = rt.alloc();
     assert_entries(&rt, alloc, one(&rt, alloc), ONE);
     assert_entries(&rt, alloc, rejoined(&rt, alloc), REJOINED);
+    assert_entries(&rt, alloc, rejoined_owned(&rt, alloc), REJOINED);
+    let (front, back) = cut_apart(&rt, alloc);
+    assert_entries(&rt, alloc, front, FRONT);
+    assert_entries(&rt, alloc, back, BACK);
     assert_entries(&rt, alloc, between_none(&rt, alloc), BETWEEN_NONE);
 }
 

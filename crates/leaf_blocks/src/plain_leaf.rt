@@ -113,6 +113,25 @@ impl<K: Key, V: Share> Leaf<K, V> for PlainLeaf<K, V> {
         Ok(PlainLeaf { entries })
     }
 
+    fn cut(
+        self,
+        _alloc: Global,
+        at: u64,
+    ) -> Result<(PlainLeaf<K, V>, (K, V), PlainLeaf<K, V>), NoMemory> {
+        let PlainLeaf { entries } = self;
+        let mut front = entries;
+        let back = front.split_off(at as usize + 1)?;
+        let Some(middle) = front.pop() else {
+            unreachable!()
+        };
+        front.shrink_to_fit();
+        Ok((
+            PlainLeaf { entries: front },
+            middle,
+            PlainLeaf { entries: back },
+        ))
+    }
+
     fn concat3(
         &self,
         alloc: Global,
@@ -125,6 +144,20 @@ impl<K: Key, V: Share> Leaf<K, V> for PlainLeaf<K, V> {
         push_shares(alloc, &mut entries, &self.entries)?;
         entries.push_reserved((key, val));
         push_shares(alloc, &mut entries, &right.entries)?;
+        Ok(PlainLeaf { entries })
+    }
+
+    fn concat3_owned(
+        self,
+        _alloc: Global,
+        key: K,
+        val: V,
+        right: PlainLeaf<K, V>,
+    ) -> Result<PlainLeaf<K, V>, NoMemory> {
+        let (mut entries, mut after) = (self.into_entries(), right.into_entries());
+        entries.reserve_exact(1 + after.len())?;
+        entries.push_reserved((key, val));
+        entries.append(&mut after)?;
         Ok(PlainLeaf { entries })
     }
 

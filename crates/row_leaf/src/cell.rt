@@ -29,6 +29,8 @@ impl Share for Cell {
 
 /// The bytes of the column, and then those of the weight.
 impl ValueCode for Cell {
+    const ROOM: usize = 20;
+
     ghost fits_bytes = { CellFits };
 
     ghost bytes_of = { cell_bytes };

@@ -97,7 +97,8 @@ pub fn join_lent<M: Shape, C: Ledger>(
 }
 
 /// The same as `join`, of trees that are given up. Where they are balanced, as mostly after a change of one entry in one of
-/// them, they become the sides of one node, and get no further owner; else it takes what `join` takes.
+/// them, they become the sides of one node, and get no further owner. Of few entries, those of blocks with one owner move. Else it
+/// takes what `join` takes.
 pub fn join_owned<M: Shape, C: Ledger>(
     alloc: Global,
     left: Tree<M>,
@@ -115,6 +116,8 @@ pub fn join_owned<M: Shape, C: Ledger>(
     let _sizes = (left.size(), right.size()); // for the proof alone: keys rise, and sizes fit
     if are_balanced(&left, &right) {
         Tree::link_owned(alloc, left, key, val, right, steps)
+    } else if are_small(&left, &right) {
+        Tree::link_small(alloc, left, key, val, right, steps)
     } else {
         join(alloc, &left, key, val, &right, steps)
     }

@@ -38,3 +38,21 @@ pub fn cut_around<K: Key, V: Share, L: Leaf<K, V>>(
         back,
     })
 }
+
+/// The same as `cut_around`, of a leaf that is taken over: where its entries move, none of them is shared.
+pub(crate) fn cut_owned<K: Key, V: Share, L: Leaf<K, V>>(
+    alloc: Global,
+    leaf: L,
+    at: u64,
+) -> Result<Around<K, V, L>, NoMemory>
+    requires { at < length (L.entries leaf) }
+    ensures { IfOk result (λ parts. IsCutAround (L.entries leaf) at (L.entries parts.front) (parts.key, parts.val) (L.entries parts.back)) }
+{
+    let (front, (key, val), back) = leaf.cut(alloc, at)?;
+    Ok(Around {
+        front,
+        key,
+        val,
+        back,
+    })
+}

@@ -17,6 +17,7 @@ mod build;
 mod cross;
 mod cut;
 mod folding;
+mod giving;
 mod link;
 mod listing;
 mod look;

@@ -2,15 +2,26 @@
 ghost use Rattle.std.specs.Prelude.{◌≡◌, ◌+◌, ◌*◌, ◌<◌, ◌≤◌, ◌↔◌, ◌∷◌, ◌++◌, IfOk, IsTrue, length};
 ghost use Rattle.map_model.specs.Balance.{FillsBlock, FillsNode, IsBalanced, weight};
 ghost use Rattle.map_model.specs.Entries.{IsIncreasing};
-ghost use Rattle.tree_shape.specs.Shape.{link_cost};
+ghost use Rattle.tree_shape.specs.Shape.{IsNode, link_cost};
 
-use crate::cut::{Around, cut_around};
+use crate::cut::{Around, cut_owned};
 use crate::look::Look;
 use crate::shape::Shape;
-use crate::tree::{Top, Tree};
+use crate::tree::{Node, Top, Tree};
 use aug_monoid::{Leaf, NoMemory, Share, Steps, share_entry};
 use std::alloc::Global;
 use std::sync::ledger::Ledger;
+
+/// The entries of a node over two blocks in one leaf.
+pub(crate) fn leaf_over_blocks<M: Shape>(alloc: Global, node: &Node<M>) -> Result<M::Leaf, NoMemory>
+    requires lawful { IsNode M.Key.cmp M.Augment.base_of M.Augment.unit_of M.Augment.combined M.BLOCK node.now.left node.now.key node.now.val node.now.right node.now.fold node.now.size node.now.height }
+    requires small { length node.now.left.entries + length node.now.right.entries + 1 ≤ 4 * M.BLOCK }
+    ensures { IfOk result (λ leaf. M.Leaf.entries leaf ≡ node.now.left.entries ++ (node.now.key, node.now.val) ∷ node.now.right.entries) }
+{
+    let (key, val) = share_entry(alloc, &node.key, &node.val)?;
+    let (left, right) = (node.left.block_leaf(), node.right.block_leaf());
+    left.concat3(alloc, key, val, right)
+}
 
 impl<M: Shape> Tree<M> {
     /// How many entries a block holds at least. It holds at most twice as many.
@@ -57,12 +68,7 @@ impl<M: Shape> Tree<M> {
         match &self.top {
             Top::Empty => <M::Leaf>::from_owned(alloc, Vec::new(alloc)),
             Top::Block(block) => block.leaf.front(alloc, block.leaf.len()),
-            Top::Node(node) => {
-                let (key, val) = share_entry(alloc, &node.key, &node.val)?;
-                node.left
-                    .block_leaf()
-                    .concat3(alloc, key, val, node.right.block_leaf())
-            }
+            Top::Node(node) => leaf_over_blocks(alloc, node),
         }
     }
 
@@ -87,21 +93,22 @@ impl<M: Shape> Tree<M> {
     /// A tree of two blocks with an entry between them.
     fn two_blocks<C: Ledger>(
         alloc: Global,
-        leaf: &M::Leaf,
+        leaf: M::Leaf,
         steps: &mut Steps<C>,
     ) -> Result<Tree<M>, NoMemory>
-        requires increasing { IsIncreasing M.Key.cmp (M.Leaf.entries leaf.now) }
-        requires long { 2 * M.BLOCK < length (M.Leaf.entries leaf.now) }
-        requires small { length (M.Leaf.entries leaf.now) ≤ 4 * M.BLOCK }
-        ensures entries { IfOk result (λ tree. tree.entries ≡ M.Leaf.entries leaf.now) }
-        ensures cost { steps.new ≤ steps.old + (length (M.Leaf.entries leaf.now) + 1) }
+        requires increasing { IsIncreasing M.Key.cmp (M.Leaf.entries leaf) }
+        requires long { 2 * M.BLOCK < length (M.Leaf.entries leaf) }
+        requires small { length (M.Leaf.entries leaf) ≤ 4 * M.BLOCK }
+        ensures entries { IfOk result (λ tree. tree.entries ≡ M.Leaf.entries leaf) }
+        ensures cost { steps.new ≤ steps.old + (length (M.Leaf.entries leaf) + 1) }
     {
+        let middle = (leaf.len() - 1) / 2;
         let Around {
             front,
             key,
             val,
             back,
-        } = cut_around(alloc, leaf, (leaf.len() - 1) / 2)?;
+        } = cut_owned(alloc, leaf, middle)?;
         let left = Self::block(alloc, front, steps)?;
         let right = Self::block(alloc, back, steps)?;
         Self::node(alloc, left, key, val, right, steps)
@@ -121,7 +128,7 @@ impl<M: Shape> Tree<M> {
         if leaf.len() <= 2 * M::BLOCK as u64 {
             Self::block_or_none(alloc, leaf, steps)
         } else {
-            Self::two_blocks(alloc, &leaf, steps)
+            Self::two_blocks(alloc, leaf, steps)
         }
     }
 
@@ -159,7 +166,7 @@ impl<M: Shape> Tree<M> {
     {
         let front = left.to_leaf(alloc)?;
         let back = right.to_leaf(alloc)?;
-        front.concat3(alloc, key, val, &back)
+        front.concat3_owned(alloc, key, val, back)
     }
 
     /// The tree of two trees and an entry between them, which are balanced or have few entries: a node over the two where they
