@@ -7,7 +7,7 @@ ghost use Rattle.diff_leaf.specs.Numbers.{key_entry, number_entry, AreNumbers};
 use crate::number_key::NumberKey;
 use crate::seek::seek_key;
 use aug_monoid::{Leaf, LeafMut, Lent, NoMemory, Seek, Steps, Walk};
-use gap_code::{Gaps, ValueCode};
+use gap_code::{Gaps, ValueCode, number_len};
 use std::alloc::Global;
 use std::marker::{Model, PhantomData};
 use std::sync::ledger::Ledger;
@@ -37,14 +37,29 @@ impl<K: NumberKey, V: ValueCode> Model for NumberLeaf<K, V> {
     ghost invariant = { λ l. AreNumbers K.fits_number l.gaps };
 }
 
-/// The gap code of entries whose keys rise, in one pass.
+/// How many bytes to set aside for entries whose keys rise: what their keys take, and of values that have bytes a guess.
+fn room_for<K: NumberKey, V: ValueCode>(from: &[(K, V)]) -> usize {
+    if V::ROOM > 0 {
+        return from.len().saturating_mul(4);
+    }
+    let mut room: usize = 0;
+    let mut last: u64 = 0;
+    for entry in from {
+        let number = entry.0.number();
+        room = room.saturating_add(number_len(number.saturating_sub(last)));
+        last = number;
+    }
+    room
+}
+
+/// The gap code of entries whose keys rise.
 fn encode<K: NumberKey, V: ValueCode>(alloc: Global, from: &[(K, V)]) -> Result<Gaps<V>, NoMemory>
     requires increasing { IsIncreasing K.cmp from.now }
     requires short { length from.now ≤ 512 }
     ensures same { IfOk result (λ gaps. map (key_entry K.key_of) gaps ≡ from.now) }
     ensures numbers { IfOk result (λ gaps. AreNumbers K.fits_number gaps) }
 {
-    let mut gaps = Gaps::with_room(alloc, from.len().saturating_mul(4))?;
+    let mut gaps = Gaps::with_room(alloc, room_for(from))?;
     for entry in from {
         gaps.push(entry.0.number(), &entry.1)?;
     }

@@ -3,13 +3,11 @@ ghost use Rattle.std.specs.Prelude.{◌≡◌, ◌+◌, ◌<◌, ◌≤◌, ◌^
 ghost use Rattle.gap_code.specs.Code.{NotFalling, IsPlaceOf};
 
 use crate::gaps::Gaps;
+use crate::number::number_len;
 use crate::value_code::ValueCode;
 use aug_monoid::{NoMemory, Walk};
 use std::alloc::Global;
 use std::marker::PhantomData;
-
-/// What a new entry and the gap after it may take, beside the bytes that are copied: it is given back at the end.
-const SPARE: usize = 40;
 
 /// The entries of one before a place, an entry, and those of another from a place on.
 fn joined<V: ValueCode>(
@@ -28,9 +26,11 @@ fn joined<V: ValueCode>(
     ensures { IfOk result (λ whole. whole ≡ take before.now.index left.now ++ (number, val.now) ∷ drop after.now.index right.now) }
 {
     let rest = right.code().len().saturating_sub(after.byte as usize);
+    let gap = number_len(number.saturating_sub(before.key)); // the gap after it takes no more bytes than it did
     let room = (before.byte as usize)
         .saturating_add(rest)
-        .saturating_add(SPARE);
+        .saturating_add(gap)
+        .saturating_add(V::ROOM);
     let mut whole = left.start(alloc, room, before)?;
     whole.push(number, val)?;
     whole.append(right, after)?;

@@ -15,6 +15,6 @@ mod value_code;
 mod walk;
 
 pub use gaps::Gaps;
-pub use number::{number_at, push_number};
+pub use number::{number_at, number_len, push_number};
 pub use value_code::ValueCode;
 pub use walk::Found;

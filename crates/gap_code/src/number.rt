@@ -19,6 +19,20 @@ pub fn push_number(out: &mut Vec<u8>, number: u64) -> Result<(), NoMemory>
     push_byte(out, rest as u8)
 }
 
+/// How many bytes a number takes.
+#[inline]
+pub fn number_len(number: u64) -> usize
+    ensures { result ≡ length (leb number) }
+{
+    let mut rest = number;
+    let mut len = 1;
+    while rest >= 128 {
+        len += 1;
+        rest /= 128;
+    }
+    len
+}
+
 #[inline(always)]
 fn push_byte(out: &mut Vec<u8>, byte: u8) -> Result<(), NoMemory>
     ensures appended { OnOk result (out.new.items ≡ out.old.items ++ byte ∷ []) }

@@ -16,6 +16,9 @@ pub trait ValueCode: Share {
     /// The value whose bytes stand at the start.
     ghost value_of: { List ℕ → Self };
 
+    /// So many bytes are set aside for a value that is to be coded: 0 where it has none. The number decides of the time alone.
+    const ROOM: usize;
+
     /// Appends the bytes of the value. A refusal leaves some of them behind what stood there before.
     fn code_to(&self, out: &mut Vec<u8>) -> Result<(), NoMemory>
         ensures appends { OnOk result (out.new.items ≡ out.old.items ++ bytes_of self.now) }
@@ -41,6 +44,8 @@ pub trait ValueCode: Share {
 }
 
 impl ValueCode for u64 {
+    const ROOM: usize = 10;
+
     ghost fits_bytes = { λ n. n < 2 ^ 64 };
 
     ghost bytes_of = { leb };
@@ -64,6 +69,8 @@ impl ValueCode for u64 {
 }
 
 impl ValueCode for () {
+    const ROOM: usize = 0;
+
     ghost fits_bytes = { λ _. Unit {0} };
 
     ghost bytes_of = { λ _. [] };
