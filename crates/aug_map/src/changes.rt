@@ -1,6 +1,6 @@
 //! Entries set and removed in place.
 ghost use Rattle.std.specs.Prelude.{◌≡◌, ◌+◌, ◌*◌, ◌≤◌, [], ◌∷◌, IfOk, OnErr};
-ghost use Rattle.map_model.specs.Entries.{drop_key, set};
+ghost use Rattle.map_model.specs.Entries.{drop_key, lookup, set};
 ghost use Rattle.map_model.specs.SetOperations.{union};
 
 use crate::map::Map;
@@ -26,6 +26,24 @@ impl<M: ShapeMut> Map<M> {
         ensures cost { steps.new ≤ steps.old + (64 * (self.old.height + 1) * (M.BLOCK + 2) + M.Leaf.FIND) }
     {
         tree_change::put_mut(alloc, &mut self.tree, key, val, steps)
+    }
+
+    /// Sets a key to a value, where and as `put_mut` does, and answers the value that it had, in at most
+    /// `65 * (height + 1) * (B + 2) + 2 * M::Leaf::FIND` steps. It goes down once, but for what is copied, where the value is looked
+    /// for first. After a refusal the map is as it was.
+    pub fn insert_mut<C: Ledger>(
+        &mut self,
+        alloc: Global,
+        key: M::Key,
+        val: M::Val,
+        steps: &mut Steps<C>,
+    ) -> Result<Option<M::Val>, NoMemory>
+        ensures value { IfOk result (λ old. old ≡ lookup M.Key.cmp self.old.entries key) }
+        ensures entries { IfOk result (λ _. self.new.entries ≡ set M.Key.cmp self.old.entries key val) }
+        ensures kept { OnErr result (self.new ≡ self.old) }
+        ensures cost { steps.new ≤ steps.old + (65 * (self.old.height + 1) * (M.BLOCK + 2) + 2 * M.Leaf.FIND) }
+    {
+        tree_change::insert_mut(alloc, &mut self.tree, key, val, steps)
     }
 
     /// Removes a key, which the map need not have, in place as `put_mut` sets one and in as many steps; the entry of a node always

@@ -1,12 +1,13 @@
 //! The value at a key, and maps with one key changed.
 ghost use Rattle.std.specs.Prelude.{◌≡◌, ◌+◌, ◌*◌, ◌≤◌, [], ◌∷◌, is_some, IfOk, IsOk};
 ghost use Rattle.std.specs.Option.{option_copied};
-ghost use Rattle.map_model.specs.Entries.{drop_key, lookup, set};
+ghost use Rattle.map_model.specs.Entries.{IsIncreasing, drop_key, lookup, set};
 
 use crate::map::Map;
 use aug_monoid::{NoMemory, Steps};
 use std::alloc::Global;
 use std::sync::ledger::Ledger;
+use tree_make::{tree_of, tree_of_slice};
 use tree_shape::{Shape, ShapeRef};
 
 impl<M: Shape> Map<M> {
@@ -15,6 +16,22 @@ impl<M: Shape> Map<M> {
         ensures { IfOk result (λ map. map.entries ≡ (key, val) ∷ []) }
     {
         Map::from_tree(tree_entry::single(alloc, key, val))
+    }
+
+    /// The map of entries whose keys rise, which are shared. O(n) for n entries.
+    pub fn of_slice(alloc: Global, entries: &[(M::Key, M::Val)]) -> Result<Map<M>, NoMemory>
+        requires { IsIncreasing M.Key.cmp entries.now }
+        ensures { IfOk result (λ map. map.entries ≡ entries.now) }
+    {
+        Map::from_tree(tree_of_slice(alloc, entries))
+    }
+
+    /// The map of entries whose keys rise, which are handed over. O(n) for n entries.
+    pub fn of_vec(alloc: Global, entries: Vec<(M::Key, M::Val)>) -> Result<Map<M>, NoMemory>
+        requires { IsIncreasing M.Key.cmp entries.items }
+        ensures { IfOk result (λ map. map.entries ≡ entries.items) }
+    {
+        Map::from_tree(tree_of(alloc, entries))
     }
 
     /// The value at a key, if it is there, in at most `height + M::Leaf::FIND` steps. It takes no memory where the shares of keys and

@@ -1,9 +1,9 @@
 //! The one map type: a persistent ordered map with the fold of its entries.
 //!
 //! Contracts see a `Map` as its entries in the order of their keys, and its height. Each answer shares what it can with the
-//! arguments, so a copy of a map costs no more than a pointer. `put_mut`, `del_mut` and `put_with` change the map that they are
-//! called on, and no other; `union_into` and `multi_put_into` take a map that is given up, and move what it alone has: a refusal
-//! loses it. No other call changes an argument. `NoMemory` is the one refusal, also where the `Augment` refuses.
+//! arguments, so a copy of a map costs no more than a pointer. `put_mut`, `insert_mut`, `del_mut` and `put_with` change the map
+//! that they are called on, and no other; `union_into` and `multi_put_into` take a map that is given up, and move what it alone
+//! has: a refusal loses it. No other call changes an argument. `NoMemory` is the one refusal, also where the `Augment` refuses.
 //!
 //! The names here give a map's augment, or its augment, its leaf and its block size, and are aliases of the types over one shape, which
 //! code that is generic in its maps takes from `shaped`.

@@ -69,6 +69,23 @@ pub(crate) fn put<A: Augment, C: Ledger>(
     map.put_mut(alloc, key, val, &mut steps)
 }
 
+/// Sets a key to a value, and answers the one that it had.
+pub(crate) fn insert<A: Augment, C: Ledger>(
+    alloc: Global,
+    map: &mut PlainMap<A>,
+    key: A::Key,
+    val: A::Val,
+    blank: Blank,
+) -> Result<Option<A::Val>, NoMemory>
+    requires { IsFresh C.name C.parts blank }
+    ensures value { IfOk result (λ old. old ≡ lookup A.Key.cmp map.old.entries key) }
+    ensures entries { IfOk result (λ _. map.new.entries ≡ set A.Key.cmp map.old.entries key val) }
+    ensures kept { OnErr result (map.new ≡ map.old) }
+{
+    let mut steps = Steps::<C>::start(blank);
+    map.insert_mut(alloc, key, val, &mut steps)
+}
+
 /// Sets a key to what `how` makes of its value and the given one.
 pub(crate) fn put_with<A: Augment, H: Resolve<A::Val>, C: Ledger>(
     alloc: Global,

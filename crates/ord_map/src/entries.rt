@@ -34,7 +34,8 @@ impl<A: Augment> OrdMap<A> {
         counters::get_ref::<A, Brand>(&self.map, key, Blank::new(1))
     }
 
-    /// Whether the key is there, in O(log n). It takes no memory, and shares no value.
+    /// Whether the key is there, in O(log n). It takes no memory and shares no value, so it never refuses: the allocator and the
+    /// `Result` are those of the calls beside it.
     ///
     ///     let map = Sums::from_pairs(alloc, &[(1, 10), (2, 20)])?;
     ///     map.contains_key(alloc, &3)?     // false

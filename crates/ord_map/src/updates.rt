@@ -23,7 +23,8 @@ impl<A: Augment> OrdMap<A> {
         counters::put::<A, Brand>(alloc, &mut self.map, key, val, Blank::new(1))
     }
 
-    /// Sets a key to a value, as `put` does, and answers the value that it had. That is a second way down, and a share of the value.
+    /// Sets a key to a value, as `put` does, and answers the value that it had. It goes down once where `put` changes the map in place;
+    /// a part that is copied is looked through for the value first.
     ///
     ///     let mut map = Sums::from_pairs(alloc, &[(1, 10)])?;
     ///     let old = map.insert(alloc, 1, 11)?;     // old is Some(10), map is [(1, 11)]
@@ -37,9 +38,7 @@ impl<A: Augment> OrdMap<A> {
         ensures entries { IfOk result (λ _. self.new ≡ set A.Key.cmp self.old key val) }
         ensures kept { OnErr result (self.new ≡ self.old) }
     {
-        let old = self.get(alloc, &key)?;
-        self.put(alloc, key, val)?;
-        Ok(old)
+        counters::insert::<A, Brand>(alloc, &mut self.map, key, val, Blank::new(1))
     }
 
     /// Removes a key, which the map need not have, in O(log n): where it stands in the same cases as `put`, but for the entry of a

@@ -3,5 +3,6 @@ mod Owned
 mod Taking
 mod Sides
 mod Changed
+mod HandedOut
 mod PutNodes
 mod DelNodes

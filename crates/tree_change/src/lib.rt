@@ -13,10 +13,11 @@ mod blocks;
 mod dels;
 mod nodes;
 mod puts;
+mod replaced;
 mod shape_mut;
 mod unions;
 
 pub use dels::del_mut;
-pub use puts::put_mut;
+pub use puts::{insert_mut, put_mut};
 pub use shape_mut::ShapeMut;
 pub use unions::put_with;

@@ -11,6 +11,7 @@ use aug_monoid::{Augment, Key, Steps};
 use balance::balanced;
 use std::alloc::Global;
 use std::cmp::Ordering;
+use std::mem::replace;
 use std::sync::ledger::Ledger;
 use tree_shape::{MOST_ENTRIES, Node, Shape, Tree};
 
@@ -149,20 +150,22 @@ pub(crate) fn refresh<M: Shape, C: Ledger>(alloc: Global, node: &mut Node<M>, st
     node.height = height;
 }
 
-/// Sets the value of the entry of a node.
+/// Sets the value of the entry of a node, and answers the one that it had.
 pub(crate) fn put_here<M: Shape, C: Ledger>(
     alloc: Global,
     node: &mut Node<M>,
     val: M::Val,
     steps: &mut Steps<C>,
-)
+) -> M::Val
     requires total { M.Augment.never_refuses }
     requires fits { length node.old.left.entries + length node.old.right.entries + 1 < 2 ^ 60 }
+    ensures value { result ≡ node.old.val }
     ensures node { IsRefreshed M.Augment.base_of M.Augment.unit_of M.Augment.combined M.BLOCK node.old.left node.old.key val node.old.right node.new }
     ensures cost { steps.new ≤ steps.old + 2 }
 {
-    node.val = val;
+    let old = replace(&mut node.val, val);
     refresh(alloc, node, steps);
+    old
 }
 
 /// Takes the base value of a new entry into the fold of a node, and makes its size and height what they are with it.

@@ -9,8 +9,8 @@ use std::alloc::Global;
 use std::marker::Brand;
 use std::process::Abort;
 use std::sync::ledger::{Blank, Ledger};
-use tree_change::{ShapeMut, del_mut, put_mut, put_with};
-use tree_entry::{del, put};
+use tree_change::{ShapeMut, del_mut, insert_mut, put_mut, put_with};
+use tree_entry::{del, get, put};
 use tree_shape::{Shape, Tree};
 
 /// The number after another one in a sequence that looks like chance.
@@ -20,8 +20,22 @@ fn next_number(number: u64) -> u64 {
         .wrapping_add(1442695040888963407)
 }
 
+/// Inserts into a map in place, and asserts that the answer is the value that a look-up finds before.
+fn insert_seen<R: Abort, M: ShapeMut + Shape<Key = u64, Val = u64>, C: Ledger>(
+    rt: &R,
+    alloc: Global,
+    own: &mut Tree<M>,
+    key: u64,
+    val: u64,
+    steps: &mut Steps<C>,
+) {
+    let found = get(alloc, own, &key, steps).expect(rt, "memory");
+    let old = insert_mut(alloc, own, key, val, steps).expect(rt, "memory");
+    assert!(rt; old == found);
+}
+
 /// Changes a map in place at a key below 512 that a number gives, and answers another map with the same change: a removal
-/// after one number in three, a put after the others.
+/// after one number in three, a put or an insert after the others.
 fn change_both<R: Abort, M: ShapeMut + Shape<Key = u64, Val = u64>, C: Ledger>(
     rt: &R,
     alloc: Global,
@@ -35,7 +49,11 @@ fn change_both<R: Abort, M: ShapeMut + Shape<Key = u64, Val = u64>, C: Ledger>(
         del_mut(alloc, own, &key, steps).expect(rt, "memory");
         del(alloc, &copied, &key, steps)
     } else {
-        put_mut(alloc, own, key, number, steps).expect(rt, "memory");
+        if (number >> 19) % 2 == 0 {
+            put_mut(alloc, own, key, number, steps).expect(rt, "memory");
+        } else {
+            insert_seen(rt, alloc, own, key, number, steps);
+        }
         put(alloc, &copied, key, number, steps)
     };
     new.expect(rt, "memory")

@@ -1,7 +1,11 @@
-use Rattle.std.proofs.Common.{rules, ◌≡◌, ◌+◌, ◌*◌, ◌<◌, ◌≤◌, length, sym, ap, ◌∙◌, subst, arith}
+use Rattle.std.proofs.Common.{rules, Some, ◌≡◌, ◌+◌, ◌*◌, ◌<◌, ◌≤◌, length, sym, ap, ◌∙◌, subst, arith}
 use Rattle.map_model.proofs.Cuts.{length-around}
+use Rattle.map_model.specs.Entries.{lookup}
+use Rattle.map_model.proofs.Lookups.{lookup_left, lookup_middle, lookup_right}
 use Rattle.tree_shape.specs.Top.{contents}
+use Rattle.tree_change.specs.Looks.{look_cost}
 use Rattle.tree_change.proofs.Costs.{level_changed, copied_cost}
+use Rattle.tree_change.proofs.HandedOut.{look_in_side}
 use Rattle.tree_change.proofs.Owned.{top_node, left_is_shorter, right_is_shorter, left_is_lower, right_is_lower, sides_fit, law_of_one_more}
 use Rattle.tree_change.proofs.PutNodes.{put_left_fits, put_right_fits, put_left_fold, put_right_fold, put_left_longer, put_right_longer, put_left_size, put_right_size, put_left, put_right, put_here}
 use Rattle.tree_change.proofs.puts.+put_in.Goals as goal
@@ -52,7 +56,8 @@ returns-in-Left-clause-cost g t c =
     let node = c.in-Some.node.now in
     let own = top_node g.M.Leaf.Leaf.entries g.M.Key.Ord.cmp a.base_of a.unit_of a.combined g.M.Shape.BLOCK map node c.in-Node.owner c.tree.inside.top c.in-Some.ensures.value c.in-Node.is c.tree.invariant c.tree.view_is in
     let level = level_changed node.left.height map.height g.M.Shape.BLOCK (left_is_lower map node own) in
-    omega (arith, level, c.in_ok-growth-in-Left.ensures.cost, c.refresh_after_put.ensures.cost, c.in-Left.ensures.one_step)
+    let look = look_in_side c.args.replaced.now.is_wanted node.left.height map.height g.M.Leaf.Leaf.FIND (left_is_lower map node own) in
+    omega (arith, level, look, c.in_ok-growth-in-Left.ensures.cost, c.refresh_after_put.ensures.cost, c.in-Left.ensures.one_step)
 
 pub put_in-requires-in-Right : goal.put_in-requires-in-Right
 put_in-requires-in-Right g t c κs within =
@@ -99,7 +104,8 @@ returns-in-Right-clause-cost g t c =
     let node = c.in-Some.node.now in
     let own = top_node g.M.Leaf.Leaf.entries g.M.Key.Ord.cmp a.base_of a.unit_of a.combined g.M.Shape.BLOCK map node c.in-Node.owner c.tree.inside.top c.in-Some.ensures.value c.in-Node.is c.tree.invariant c.tree.view_is in
     let level = level_changed node.right.height map.height g.M.Shape.BLOCK (right_is_lower map node own) in
-    omega (arith, level, c.in_ok-growth-in-Right.ensures.cost, c.refresh_after_put-in-Right.ensures.cost, c.in-Right.ensures.one_step)
+    let look = look_in_side c.args.replaced.now.is_wanted node.right.height map.height g.M.Leaf.Leaf.FIND (right_is_lower map node own) in
+    omega (arith, level, look, c.in_ok-growth-in-Right.ensures.cost, c.refresh_after_put-in-Right.ensures.cost, c.in-Right.ensures.one_step)
 
 pub put_here-requires-clause-fits : goal.put_here-requires-clause-fits
 put_here-requires-clause-fits g t c =
@@ -295,8 +301,8 @@ returns-clause-cost g t c =
       | in-Node+in-Some+in-Copy w ↦ search rules
       | in-Node+in_default-get_mut w ↦ search rules
     ] in
-    copied_cost c.args.part.tree.now.height g.M.Shape.BLOCK g.M.Leaf.Leaf.FIND c.args.steps.now c.match-tree.steps c.put_at_end.new.steps look
-    (subst (λ h. c.put_at_end.new.steps < c.match-tree.steps + (64 * (h + 1) * (g.M.Shape.BLOCK + 2) + g.M.Leaf.Leaf.FIND)) same c.put_at_end.ensures.cost)
+    copied_cost c.args.part.tree.now.height g.M.Shape.BLOCK (g.M.Leaf.Leaf.FIND + look_cost c.args.replaced.now.is_wanted c.args.part.tree.now.height g.M.Leaf.Leaf.FIND) c.args.steps.now c.match-tree.steps c.put_at_end.new.steps look
+    (subst (λ h. c.put_at_end.new.steps < c.match-tree.steps + (64 * (h + 1) * (g.M.Shape.BLOCK + 2) + (g.M.Leaf.Leaf.FIND + look_cost c.args.replaced.now.is_wanted h g.M.Leaf.Leaf.FIND))) same c.put_at_end.ensures.cost)
 
 pub returns-clause-larger : goal.returns-clause-larger
 returns-clause-larger g t c =
@@ -307,6 +313,72 @@ returns-clause-larger g t c =
       | in-Node+in-Some+in-Copy w ↦
           ap (λ t. (contents g.M.Leaf.Leaf.entries t.top).entries) w.tree-inside-is
           ∙ (top_node g.M.Leaf.Leaf.entries g.M.Key.Ord.cmp a.base_of a.unit_of a.combined g.M.Shape.BLOCK map w.in-Some.node.now w.in-Node.owner c.tree.inside.top w.in-Some.ensures.value w.in-Node.is c.tree.invariant c.tree.view_is).entries_are
-      | in-Node+in_default-get_mut w ↦ search rules
+      | in-Node+in_default-get_mut w ↦ ap (λ t. (contents g.M.Leaf.Leaf.entries t.top).entries) w.tree-inside-is ∙ ap (λ x. (contents g.M.Leaf.Leaf.entries x).entries) (sym w.in-Node.is) ∙ ap (λ x. x.entries) c.tree.view_is
     ] in
     rw (sym same) c.put_at_end.ensures.larger
+
+pub returns-in-Left-clause-replaced : goal.returns-in-Left-clause-replaced
+returns-in-Left-clause-replaced g t c = λ wanted.
+    let a = g.M.Augment.Augment in
+    let map = c.args.part.tree.now in
+    let node = c.in-Some.node.now in
+    let own = top_node g.M.Leaf.Leaf.entries g.M.Key.Ord.cmp a.base_of a.unit_of a.combined g.M.Shape.BLOCK map node c.in-Node.owner c.tree.inside.top c.in-Some.ensures.value c.in-Node.is c.tree.invariant c.tree.view_is in
+    c.in_ok-growth-in-Left.ensures.replaced wanted
+    ∙ sym (lookup_left g.met.M.Key.Ord.total node.left.entries node.key node.val node.right.entries c.args.key own.shape.increasing c.in-Left.ensures.way.0)
+    ∙ ap (λ es. lookup g.M.Key.Ord.cmp es c.args.key) own.entries_are
+
+pub returns-in-Right-clause-replaced : goal.returns-in-Right-clause-replaced
+returns-in-Right-clause-replaced g t c = λ wanted.
+    let a = g.M.Augment.Augment in
+    let map = c.args.part.tree.now in
+    let node = c.in-Some.node.now in
+    let own = top_node g.M.Leaf.Leaf.entries g.M.Key.Ord.cmp a.base_of a.unit_of a.combined g.M.Shape.BLOCK map node c.in-Node.owner c.tree.inside.top c.in-Some.ensures.value c.in-Node.is c.tree.invariant c.tree.view_is in
+    c.in_ok-growth-in-Right.ensures.replaced wanted
+    ∙ sym (lookup_right g.met.M.Key.Ord.total node.left.entries node.key node.val node.right.entries c.args.key own.shape.increasing c.in-Right.ensures.way.0)
+    ∙ ap (λ es. lookup g.M.Key.Ord.cmp es c.args.key) own.entries_are
+
+pub returns-in-Here-clause-replaced : goal.returns-in-Here-clause-replaced
+returns-in-Here-clause-replaced g t c = λ wanted.
+    let a = g.M.Augment.Augment in
+    let map = c.args.part.tree.now in
+    let node = c.in-Some.node.now in
+    let own = top_node g.M.Leaf.Leaf.entries g.M.Key.Ord.cmp a.base_of a.unit_of a.combined g.M.Shape.BLOCK map node c.in-Node.owner c.tree.inside.top c.in-Some.ensures.value c.in-Node.is c.tree.invariant c.tree.view_is in
+    ap Some c.put_here.ensures.value
+    ∙ sym (lookup_middle g.met.M.Key.Ord.total node.left.entries node.key node.val node.right.entries c.args.key own.shape.increasing c.in-Here.ensures.way)
+    ∙ ap (λ es. lookup g.M.Key.Ord.cmp es c.args.key) own.entries_are
+
+pub returns-clause-replaced : goal.returns-clause-replaced
+returns-clause-replaced g t c =
+    let a = g.M.Augment.Augment in
+    let map = c.args.part.tree.now in
+    let same : (contents g.M.Leaf.Leaf.entries c.match-tree.tree-inside.top).entries ≡ map.entries = elim c.match-tree.branch [
+      | in_default w ↦ search rules
+      | in-Node+in-Some+in-Copy w ↦
+          ap (λ t. (contents g.M.Leaf.Leaf.entries t.top).entries) w.tree-inside-is
+          ∙ (top_node g.M.Leaf.Leaf.entries g.M.Key.Ord.cmp a.base_of a.unit_of a.combined g.M.Shape.BLOCK map w.in-Some.node.now w.in-Node.owner c.tree.inside.top w.in-Some.ensures.value w.in-Node.is c.tree.invariant c.tree.view_is).entries_are
+      | in-Node+in_default-get_mut w ↦ ap (λ t. (contents g.M.Leaf.Leaf.entries t.top).entries) w.tree-inside-is ∙ ap (λ x. (contents g.M.Leaf.Leaf.entries x).entries) (sym w.in-Node.is) ∙ ap (λ x. x.entries) c.tree.view_is
+    ] in
+    rw (sym same) c.put_at_end.ensures.replaced
+
+pub returns-in_err-growth-in-Left-clause-cost : goal.returns-in_err-growth-in-Left-clause-cost
+returns-in_err-growth-in-Left-clause-cost g t c =
+    let a = g.M.Augment.Augment in
+    let map = c.args.part.tree.now in
+    let node = c.in-Some.node.now in
+    let own = top_node g.M.Leaf.Leaf.entries g.M.Key.Ord.cmp a.base_of a.unit_of a.combined g.M.Shape.BLOCK map node c.in-Node.owner c.tree.inside.top c.in-Some.ensures.value c.in-Node.is c.tree.invariant c.tree.view_is in
+    let level = level_changed node.left.height map.height g.M.Shape.BLOCK (left_is_lower map node own) in
+    let look = look_in_side c.args.replaced.now.is_wanted node.left.height map.height g.M.Leaf.Leaf.FIND (left_is_lower map node own) in
+    omega (arith, level, look, c.put_in.ensures.cost, c.in-Left.ensures.one_step)
+
+pub returns-in_err-growth-in-Right-clause-cost : goal.returns-in_err-growth-in-Right-clause-cost
+returns-in_err-growth-in-Right-clause-cost g t c =
+    let a = g.M.Augment.Augment in
+    let map = c.args.part.tree.now in
+    let node = c.in-Some.node.now in
+    let own = top_node g.M.Leaf.Leaf.entries g.M.Key.Ord.cmp a.base_of a.unit_of a.combined g.M.Shape.BLOCK map node c.in-Node.owner c.tree.inside.top c.in-Some.ensures.value c.in-Node.is c.tree.invariant c.tree.view_is in
+    let level = level_changed node.right.height map.height g.M.Shape.BLOCK (right_is_lower map node own) in
+    let look = look_in_side c.args.replaced.now.is_wanted node.right.height map.height g.M.Leaf.Leaf.FIND (right_is_lower map node own) in
+    omega (arith, level, look, c.put_in-in-Right.ensures.cost, c.in-Right.ensures.one_step)
+
+pub put_at_end-requires-clause-unset : goal.put_at_end-requires-clause-unset
+put_at_end-requires-clause-unset g t c = c.requires.unset

@@ -5,6 +5,7 @@ use Rattle.map_model.proofs.Cuts.{none_of_absent, set_sizes}
 use Rattle.map_model.proofs.Lengths.{length-set}
 use Rattle.map_model.proofs.Splits.{IsIncreasing-set}
 use Rattle.tree_shape.specs.Top.{contents}
+use Rattle.tree_change.specs.Looks.{look_cost}
 use Rattle.tree_change.proofs.Changed.{by_outcome, longer_seen}
 use Rattle.tree_change.proofs.Costs.{sought_cost}
 use Rattle.tree_change.proofs.Owned.{top_block}
@@ -18,7 +19,8 @@ returns-clause-cost g c =
       | in_default w ↦ search rules
       | in-Block+in_default-get_mut w ↦ search rules
     ] in
-    subst (λ h. c.put_copy.new.steps < c.args.steps.now + (64 * (h + 1) * (g.M.Shape.BLOCK + 2) + g.M.Leaf.Leaf.FIND)) same c.put_copy.ensures.cost
+    subst (λ h. c.put_copy.new.steps < c.args.steps.now + (64 * (h + 1) * (g.M.Shape.BLOCK + 2) + (g.M.Leaf.Leaf.FIND + look_cost c.args.replaced.now.is_wanted h g.M.Leaf.Leaf.FIND))) same
+    (omega (arith, c.put_copy.ensures.cost, c.share_in_tree.ensures.cost))
 
 pub invariant_of-tree : goal.invariant_of-tree
 invariant_of-tree g c =
@@ -105,14 +107,14 @@ returns-in_err-tree-inside-clause-cost g c =
     let a = g.M.Augment.Augment in
     let own = top_block g.M.Leaf.Leaf.entries g.M.Key.Ord.cmp a.base_of a.unit_of a.combined g.M.Shape.BLOCK c.args.part.tree.now c.in-Some.block.now c.in-Block.owner c.tree.inside.top c.in-Some.ensures.value c.in-Block.is c.tree.invariant c.tree.view_is in
     let look = c.seek-place.ensures.within (omega (arith, own.shape.short, g.M.Shape.lawful.1)) in
-    sought_cost c.args.part.tree.now.height g.M.Shape.BLOCK g.M.Leaf.Leaf.FIND c.args.steps.now c.seek-place.new.steps c.put_sought.new.steps look c.put_sought.ensures.cost
+    sought_cost c.args.part.tree.now.height g.M.Shape.BLOCK (g.M.Leaf.Leaf.FIND + look_cost c.args.replaced.now.is_wanted c.args.part.tree.now.height g.M.Leaf.Leaf.FIND) c.args.steps.now c.seek-place.new.steps c.put_sought.new.steps (omega (arith, look)) c.put_sought.ensures.cost
 
 pub returns-in-Some-clause-cost : goal.returns-in-Some-clause-cost
 returns-in-Some-clause-cost g c =
     let a = g.M.Augment.Augment in
     let own = top_block g.M.Leaf.Leaf.entries g.M.Key.Ord.cmp a.base_of a.unit_of a.combined g.M.Shape.BLOCK c.args.part.tree.now c.in-Some.block.now c.in-Block.owner c.tree.inside.top c.in-Some.ensures.value c.in-Block.is c.tree.invariant c.tree.view_is in
     let look = c.seek-place.ensures.within (omega (arith, own.shape.short, g.M.Shape.lawful.1)) in
-    sought_cost c.args.part.tree.now.height g.M.Shape.BLOCK g.M.Leaf.Leaf.FIND c.args.steps.now c.seek-place.new.steps c.put_sought.new.steps look c.put_sought.ensures.cost
+    sought_cost c.args.part.tree.now.height g.M.Shape.BLOCK (g.M.Leaf.Leaf.FIND + look_cost c.args.replaced.now.is_wanted c.args.part.tree.now.height g.M.Leaf.Leaf.FIND) c.args.steps.now c.seek-place.new.steps c.put_sought.new.steps (omega (arith, look)) c.put_sought.ensures.cost
 
 pub invariant_of-tree-in-Some : goal.invariant_of-tree-in-Some
 invariant_of-tree-in-Some g c =
@@ -148,3 +150,12 @@ returns-in-Some-clause-larger g c = λ _.
 
 pub invariant_of-tree-in-Break-branch-2 : goal.invariant_of-tree-in-Break-branch-2
 invariant_of-tree-in-Break-branch-2 g c = search rules
+
+pub put_in_own_block-requires-clause-unset : goal.put_in_own_block-requires-clause-unset
+put_in_own_block-requires-clause-unset g c = c.requires.unset
+
+pub invariant_of-tree-in-Break-branch-3 : goal.invariant_of-tree-in-Break-branch-3
+invariant_of-tree-in-Break-branch-3 g c = search rules
+
+pub invariant_of-tree-4 : goal.invariant_of-tree-4
+invariant_of-tree-4 g c = search rules
