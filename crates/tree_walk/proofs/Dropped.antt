@@ -76,3 +76,14 @@ drop_behind (x ∷ front) e back (suc i) h =
 pub takes_following : {E R : Type 0} → (es block rest : List E) (i j : ℕ) (e : E) (item : Result E R) → drop i es ≡ drop j block ++ e ∷ rest → length block ≤ j → i < length es → IfOk item (λ share. share ≡ e) → Takes es i item
 takes_following es block rest i j e item is past within shares =
     takes_first es rest i e item (is ∙ ap (λ l. l ++ e ∷ rest) (drop_all j block past)) within shares
+
+-- what begins at a place, and what is left behind it
+pub left_after : {E : Type 0} → (es rest : List E) (i : ℕ) (e : E) → drop i es ≡ e ∷ rest → i < length es → (drop i es ≡ e ∷ drop (i + 1) es) × (drop (i + 1) es ≡ rest)
+left_after {E} es rest i e is within =
+    let found = entry_here es i within in
+    let behind : drop (i + 1) es ≡ rest = ap tail_of (sym found.1 ∙ is) in
+    (is ∙ ap (λ l. e ∷ l) (sym behind), behind)
+  where
+    tail_of : {E : Type 0} → List E → List E
+    tail_of [] = []
+    tail_of (x ∷ xs) = xs

@@ -3,10 +3,7 @@ use Rattle.std.proofs.Common.{◌≡◌, ℕ, zero, suc, ◌+◌, ◌-◌, ◌<�
 use Rattle.std.specs.List.{slice_get, slice_range}
 use Rattle.std.proofs.lemmas.List.{append_assoc, drop-drop, same_from_push}
 use Rattle.std.proofs.Math.Seq.{take-add, take-append-add}
-use Rattle.tree_walk.specs.Seats.{IsSeatBehind}
 use Rattle.tree_walk.specs.Shares.{Takes}
-use Rattle.tree_walk.specs.declared.seat.Seat.{Seat}
-use Rattle.tree_walk.specs.declared.seat.Seat.TheVariants.{Entry, Inside}
 use Rattle.tree_walk.proofs.Dropped.{entry_here}
 
 module _ {E : Type 0} where
@@ -53,9 +50,3 @@ take_before es block before i j item is within takes =
     sym (take_here es i found.0 found.1) ∙ is ∙ ap (λ l. before ++ l) (take_here block j takes.0 takes.1) ∙ sym (append_assoc before (take j block) (takes.0 ∷ [])) in
     let same = same_from_push (take i es) (before ++ take j block) found.0 takes.0 both in
     ((takes.0, found.1 ∙ ap (λ x. x ∷ drop (i + 1) es) same.1, takes.2), same.0)
-
--- a seat behind more entries
-pub seat_behind : {K V L : Type 0} (leaf_entries : L → List (K × V)) (more before whole : List (K × V)) (seat : Seat K V L) → whole ≡ more ++ before → IsSeatBehind leaf_entries before seat → IsSeatBehind leaf_entries whole seat
-seat_behind leaf_entries more before whole (Entry key val) is behind = tt
-seat_behind leaf_entries more before whole (Inside leaf at next) is behind =
-    (more ++ behind.0, is ∙ ap (λ l. more ++ l) behind.1 ∙ sym (append_assoc more behind.0 (take at (leaf_entries leaf.now))))

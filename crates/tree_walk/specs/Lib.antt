@@ -1,4 +1,5 @@
+pub mod Aheads
 pub mod Seats
 pub mod Places
 pub mod Shares
-pub mod Runs
+pub mod Ways

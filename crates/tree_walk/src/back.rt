@@ -45,9 +45,9 @@ fn take_from_root<'a, M: Shape>(
     ensures back { IsBackPlace M.Leaf.entries (take at tree.now.entries) back.new }
 {
     match find_seat(tree, at) {
-        Seat::Entry { key, val } => {
+        Seat::Entry { entry, .. } => {
             *back = None;
-            share_entry(alloc, key, val)
+            share_entry(alloc, entry.key, entry.val)
         }
         Seat::Inside { leaf, at, .. } => {
             *back = Some(BackPlace { leaf, at });

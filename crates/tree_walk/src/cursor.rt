@@ -120,16 +120,16 @@ fn take_from_root<'a, M: Shape>(
     ensures place { IsPlace M.Leaf.entries M.Leaf.fits_walk (drop (at + 1) tree.now.entries) place.new }
 {
     match find_seat(tree, at) {
-        Seat::Entry { key, val } => {
+        Seat::Entry { entry, .. } => {
             *place = None;
-            share_entry(alloc, key, val)
+            share_entry(alloc, entry.key, entry.val)
         }
-        Seat::Inside { leaf, at, next } => {
+        Seat::Inside { leaf, at, ahead } => {
             let mut inside = Place {
                 leaf,
                 at,
                 walk: leaf.walk(),
-                next,
+                next: ahead.entry(),
             };
             let entry = take_inside(alloc, &mut inside);
             *place = Some(inside);

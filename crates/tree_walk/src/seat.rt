@@ -3,38 +3,40 @@ ghost use Rattle.std.specs.Prelude.{◌≡◌, ◌+◌, ◌<◌, ◌++◌, List,
 ghost use Rattle.std.specs.Ordering.{is_eq};
 ghost use Rattle.tree_walk.specs.Seats.{IsSeat, IsSeatBehind};
 
+use crate::ahead::{Ahead, Following};
 use aug_monoid::{Key, Leaf, Steps};
 use std::sync::ledger::Ledger;
 use tree_shape::{Look, Shape, Tree};
 
-/// Where an entry stands: in a node, or in a leaf behind others. A leaf comes with the entry that follows its last, if there is
-/// one.
+/// Where an entry stands: in a node, or in a leaf behind others; with what follows.
 #[derive(Drop)]
-pub(crate) enum Seat<'a, K, V, L> {
+pub(crate) enum Seat<'a, M: Shape> {
     Entry {
-        key: &'a K,
-        val: &'a V,
+        entry: Following<'a, M>,
+        ahead: Ahead<'a, M>,
     },
     Inside {
-        leaf: &'a L,
+        leaf: &'a M::Leaf,
         at: u64,
-        next: Option<(&'a K, &'a V)>,
+        ahead: Ahead<'a, M>,
     },
 }
 
 /// Where the entry behind the first `at` entries stands.
 // It goes down in a loop, since a recursion would hand the seat up again through each level.
-pub(crate) fn find_seat<'a, M: Shape>(
-    tree: &'a Tree<M>,
-    at: u64,
-) -> Seat<'a, M::Key, M::Val, M::Leaf>
+pub(crate) fn find_seat<'a, M: Shape>(tree: &'a Tree<M>, at: u64) -> Seat<'a, M>
     requires { at < length tree.now.entries }
     ensures ahead { (more : List (M.Key × M.Val)) → IsSeat M.Leaf.entries (drop at tree.now.entries ++ more) result }
     ensures behind { IsSeatBehind M.Leaf.entries (take at tree.now.entries) result }
 {
     let mut part = tree;
     let mut at_in = at;
-    let mut next = None;
+    let mut ahead = Ahead {
+        first: None,
+        second: None,
+        third: None,
+        fourth: None,
+    };
     'down: loop {
         match part.look() {
             Look::Empty => unreachable!(),
@@ -42,7 +44,7 @@ pub(crate) fn find_seat<'a, M: Shape>(
                 return Seat::Inside {
                     leaf,
                     at: at_in,
-                    next,
+                    ahead,
                 };
             }
             Look::Node {
@@ -51,12 +53,17 @@ pub(crate) fn find_seat<'a, M: Shape>(
                 val,
                 right,
             } => {
+                let entry = Following {
+                    key,
+                    val,
+                    side: right,
+                };
                 let before = left.size();
                 if at_in < before {
                     part = left;
-                    next = Some((key, val));
+                    ahead = ahead.nearer(entry);
                 } else if at_in == before {
-                    return Seat::Entry { key, val };
+                    return Seat::Entry { entry, ahead };
                 } else {
                     part = right;
                     at_in -= before + 1;
@@ -78,7 +85,7 @@ pub fn is_key_at<M: Shape, C: Ledger>(
     ensures cost { steps.new ≡ steps.old + 1 }
 {
     match find_seat(tree, at) {
-        Seat::Entry { key: there, .. } => there.order(key, steps).is_eq(),
+        Seat::Entry { entry, .. } => entry.key.order(key, steps).is_eq(),
         Seat::Inside { leaf, at, .. } => match leaf.get_at(at) {
             Some(entry) => entry.key().order(key, steps).is_eq(),
             None => unreachable!(),

@@ -4,7 +4,7 @@ use Rattle.std.specs.Ordering.{is_eq}
 use Rattle.std.proofs.lemmas.List.{append-nil}
 use Rattle.map_model.proofs.Places.{entry_there}
 use Rattle.aug_monoid.specs.Lending.{entry_of}
-use Rattle.tree_walk.specs.Seats.{led_by}
+use Rattle.tree_walk.specs.Aheads.{behind}
 use Rattle.tree_walk.proofs.Dropped.{drop_here}
 use Rattle.tree_walk.proofs.Fronts.{first_here}
 use Rattle.tree_walk.proofs.seat.is_key_at.Goals as goal
@@ -16,9 +16,9 @@ unreachable-requires g c =
 pub returns-in-Entry-clause-value : goal.returns-in-Entry-clause-value
 returns-in-Entry-clause-value g c =
     let es = c.args.tree.now.entries in
-    let e : g.row.M-Key.Denot × g.row.M-Val.Denot = (c.in-Entry.there.now, c.in-Entry.val.now) in
+    let e : g.row.M-Key.Denot × g.row.M-Val.Denot = (c.in-Entry.entry.key.now, c.in-Entry.entry.val.now) in
     let seat = c.in-Entry.ensures.ahead [] in
-    let here = first_here es c.args.at e seat.0 (sym (append-nil (drop c.args.at es)) ∙ seat.1) in
+    let here = first_here es c.args.at e (c.in-Entry.entry.side.now.entries ++ behind c.in-Entry.ahead seat.0) (sym (append-nil (drop c.args.at es)) ∙ seat.1) in
     subst (λ o. IfSome o (λ e. c.is_eq.result ≡ is_eq (g.M.Key.Ord.cmp e.0 c.args.key.now))) (sym here) (c.is_eq.ensures ∙ ap is_eq c.order.ensures.value)
 
 pub returns-in-Some-clause-value : goal.returns-in-Some-clause-value
@@ -28,7 +28,7 @@ returns-in-Some-clause-value g c =
     let e = entry_of c.in-Some.entry in
     let seat = c.in-Inside.ensures.ahead [] in
     let there : slice_get block c.in-Inside.at ≡ Some e = sym c.get_at.ensures ∙ ap (option_map entry_of) c.in-Some.is in
-    let rest = led_by c.in-Inside.next seat.1.0 in
+    let rest = behind c.in-Inside.ahead seat.1.0 in
     let whole = sym (append-nil (drop c.args.at es)) ∙ seat.1.1 ∙ ap (λ l. l ++ rest) (drop_here block c.in-Inside.at e there) in
     let here = first_here es c.args.at e _ whole in
     subst (λ o. IfSome o (λ e. c.is_eq-in-Some.result ≡ is_eq (g.M.Key.Ord.cmp e.0 c.args.key.now))) (sym here) (c.is_eq-in-Some.ensures ∙ ap is_eq (c.order-in-Some.ensures.value ∙ ap (λ k. g.M.Key.Ord.cmp k c.args.key.now) c.key.ensures))
