@@ -1,3 +1,4 @@
+mod InOrder
 mod Merging
 mod Nodes
 mod Parted

@@ -48,11 +48,11 @@ module _ {X : Type 0} where
 -- ---- keys with their places
 
 module _ {K : Type 0} where
-  length_placed : (n : ℕ) (keys : List K) → length (placed n keys) ≡ length keys
+  pub length_placed : (n : ℕ) (keys : List K) → length (placed n keys) ≡ length keys
   length_placed n [] = refl
   length_placed n (k ∷ keys) = ap suc (length_placed (n + 1) keys)
 
-  at_place : (n : ℕ) (keys : List K) (i : ℕ) (d : K × ℕ) → i < length keys → get_or (placed n keys) i d ≡ (get_or keys i d.0, n + i)
+  pub at_place : (n : ℕ) (keys : List K) (i : ℕ) (d : K × ℕ) → i < length keys → get_or (placed n keys) i d ≡ (get_or keys i d.0, n + i)
   at_place n [] i d lt = absurd (omega (arith, lt))
   at_place n (k ∷ keys) zero d lt = ap (λ p. (k, p)) {x = n} {y = n + zero} (omega arith)
   at_place n (k ∷ keys) (suc i) d lt = at_place (n + 1) keys i d (omega (arith, lt)) ∙ ap (λ p. (get_or keys i d.0, p)) {x = n + 1 + i} {y = n + suc i} (omega arith)

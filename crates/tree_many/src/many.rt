@@ -1,12 +1,12 @@
 //! Many keys answered at once.
-ghost use Rattle.std.specs.Prelude.{◌≡◌, IfOk, is_some, map};
-ghost use Rattle.std.specs.List.Sorted.{IsSortedByKey};
+ghost use Rattle.std.specs.Prelude.{◌≡◌, ◌++◌, IfOk, is_some, map};
+ghost use Rattle.std.specs.List.Sorted.{IsSorted, IsSortedByKey};
 ghost use Rattle.map_model.specs.Entries.{lookup};
 ghost use Rattle.aug_monoid.specs.Fresh.{IsFresh};
 
 use crate::answers::{Answer, Value, Whether};
 use crate::one::answer_each;
-use crate::places::{all_missing, put_back, sorted_places};
+use crate::places::{all_missing, places_of, push_values, put_back, sorted_places};
 use crate::sorted::push_sorted;
 use aug_monoid::{NoMemory, Steps};
 use std::alloc::Global;
@@ -51,22 +51,37 @@ fn answer_by_sort<M: Shape, W: Answer<M::Val>, C: Ledger>(
     Ok(put_back(blanks, answers))
 }
 
-/// The answers for keys in any order, one piece of them after another. Sorted keys lose nothing by it: hardly a block has keys of two
-/// pieces.
+/// Appends to answers those for a piece of sorted keys, in the order of the keys.
+fn push_piece<M: Shape, W: Answer<M::Val>, C: Ledger>(
+    alloc: Global,
+    tree: &Tree<M>,
+    keys: &[M::Key],
+    outs: &mut Vec<W::Out>,
+    steps: &mut Steps<C>,
+) -> Result<(), NoMemory>
+    requires { IsSorted M.Key.cmp keys.now }
+    ensures { IfOk result (λ _. outs.new.items ≡ outs.old.items ++ map (λ k. W.answer (lookup M.Key.cmp tree.now.entries k)) keys.now) }
+{
+    let places = places_of(alloc, keys)?;
+    let answers = answers_of::<M, W, C>(alloc, tree, &places, steps)?;
+    push_values(outs, answers)
+}
+
+/// The answers for sorted keys, one piece of them after another. They lose nothing by it: hardly a block has keys of two pieces.
 fn answer_in_pieces<M: Shape, W: Answer<M::Val>, C: Ledger>(
     alloc: Global,
     tree: &Tree<M>,
     keys: &[M::Key],
     steps: &mut Steps<C>,
 ) -> Result<Vec<W::Out>, NoMemory>
+    requires { IsSorted M.Key.cmp keys.now }
     ensures { IfOk result (λ outs. outs.items ≡ map (λ k. W.answer (lookup M.Key.cmp tree.now.entries k)) keys.now) }
 {
     let mut outs = Vec::with_capacity(alloc, keys.len())?;
     let mut rest = keys;
     while !rest.is_empty() {
         let (piece, others) = rest.split_at(rest.len().min(PIECE));
-        let mut answers = answer_by_sort::<M, W, C>(alloc, tree, piece, steps)?;
-        outs.append(&mut answers)?;
+        push_piece::<M, W, C>(alloc, tree, piece, &mut outs, steps)?;
         rest = others;
     }
     Ok(outs)

@@ -1,5 +1,5 @@
 //! Keys with their places, and answers put back to places.
-ghost use Rattle.std.specs.Prelude.{◌≡◌, IfOk, fold, length, slice_set};
+ghost use Rattle.std.specs.Prelude.{◌≡◌, ◌++◌, IfOk, fold, length, map, slice_set};
 ghost use Rattle.std.specs.List.Sorted.{IsSortedByKey, IsStableByKey};
 ghost use Rattle.tree_many.specs.Places.{placed};
 
@@ -9,7 +9,7 @@ use sorted_lists::sorted_pairs_alone;
 use std::alloc::Global;
 
 /// Keys with their places.
-fn places_of<K: Key>(alloc: Global, keys: &[K]) -> Result<Vec<(K, usize)>, NoMemory>
+pub(crate) fn places_of<K: Key>(alloc: Global, keys: &[K]) -> Result<Vec<(K, usize)>, NoMemory>
     ensures { IfOk result (λ places. places.items ≡ placed 0 keys.now) }
 {
     let mut places = Vec::with_capacity(alloc, keys.len())?;
@@ -53,4 +53,17 @@ pub(crate) fn put_back<T: Drop>(list: Vec<T>, values: Vec<(usize, T)>) -> Vec<T>
         }
     }
     list
+}
+
+/// Appends values without their places to a list. O(n) for n values.
+pub(crate) fn push_values<T: Drop>(
+    list: &mut Vec<T>,
+    values: Vec<(usize, T)>,
+) -> Result<(), NoMemory>
+    ensures { IfOk result (λ _. list.new.items ≡ list.old.items ++ map (λ e. e.1) values.items) }
+{
+    for (_place, value) in values {
+        list.push(value)?;
+    }
+    Ok(())
 }

@@ -56,10 +56,10 @@ fn compared<R: Abort>(rt: &R, alloc: Global) -> (u64, u64) {
     compared_counted::<R, Brand>(rt, alloc, Blank::new(1))
 }
 
-// One after another a key is compared with some thirteen others; at once with its neighbour twice, as keys are looked through to see
-// whether they are sorted and then sorted, and with two or three of the map.
+// One after another a key is compared with some thirteen others; at once with its neighbour, as keys are looked through to see whether
+// they are sorted, and with two or three of the map.
 #[test]
-fn sorted_keys_are_compared_two_fifths_as_often(rt: HostRuntime) {
+fn sorted_keys_are_compared_a_third_as_often(rt: HostRuntime) {
     let (one_by_one, at_once) = compared(&rt, rt.alloc());
-    assert!(rt; at_once <= one_by_one / 5 * 2);
+    assert!(rt; at_once <= one_by_one / 3);
 }
