@@ -1,3 +1,3 @@
 mod Asked
-mod Values
+mod Kind
 mod Writing

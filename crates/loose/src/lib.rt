@@ -2,6 +2,7 @@
 //!
 //! C can be given no type that leads to a vector or a box. So a handle for C has a pointer to bytes, and says in its contract
 //! what stands there: `slot_owns` of `specs/Slots.antt`. `specs/Statuses.antt` says what the statuses of its calls mean.
+//! `proofs/Slots.antt` proves the functions that reach such a pointer, once for the handles of all kinds.
 //!
 //! Tests: `border_tests`, by the handles. Wrong bodies: none here; `pam_c` states its clauses.
 #![tactic(auto)]

@@ -1,4 +1,4 @@
 pub mod Combined
 pub mod Fitting
+mod Kind
 pub mod Rows
-mod Values
