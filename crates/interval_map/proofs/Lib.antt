@@ -1,6 +1,7 @@
 pub mod Found
 pub mod Keys
 pub mod Sets
+pub mod Listed
 pub mod Hits
 pub mod Heights
 pub mod Joins

@@ -21,7 +21,7 @@ pub with_all_ends : (is js : List Pair64) → AllByRecursion IsInterval is → A
 with_all_ends is [] a b = a
 with_all_ends is (j ∷ js) a b = with_all_ends (with_interval is j) js (with_ends is j a b.0) b.1
 
-pair64_total : IsTotalOrder pair64_cmp
+pub pair64_total : IsTotalOrder pair64_cmp
 pair64_total = then_total (on_total (λ (i : Pair64). i.first) nat_cmp_total) (on_total (λ (i : Pair64). i.second) nat_cmp_total)
 
 module _ {V : Type 0} where

@@ -22,6 +22,7 @@ mod intervals;
 mod making;
 mod merging;
 mod right_ends;
+mod sorting;
 mod valued;
 mod valued_asking;
 mod valued_changing;

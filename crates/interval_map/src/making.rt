@@ -1,24 +1,13 @@
 //! Sets of many intervals at once.
 ghost use Rattle.std.specs.Prelude.{◌≡◌, [], IfOk};
 ghost use Rattle.std.specs.List.{AllByRecursion};
-ghost use Rattle.std.specs.Map.{keys_of};
 ghost use Rattle.interval_map.specs.Intervals.{IsInterval, common_intervals, with_intervals, without_intervals};
 
 use crate::intervals::Intervals;
+use crate::sorting::{map_of, sorted_numbers};
 use aug_monoid::{First, NoMemory, Pair64};
 use ord_map::OrdMap;
 use std::alloc::Global;
-
-// An entry for each interval.
-fn entries_of(alloc: Global, intervals: &[Pair64]) -> Result<Vec<(Pair64, ())>, NoMemory>
-    ensures { IfOk result (λ entries. keys_of entries.items ≡ intervals.now) }
-{
-    let mut entries = Vec::with_capacity(alloc, intervals.len())?;
-    for interval in intervals {
-        entries.push((*interval, ()))?;
-    }
-    Ok(entries)
-}
 
 impl Intervals {
     /// The set of the intervals of a list, whose right ends are at least their left ends. One that comes twice is there once.
@@ -27,9 +16,11 @@ impl Intervals {
         requires { AllByRecursion IsInterval intervals.now }
         ensures { IfOk result (λ set. set ≡ with_intervals [] intervals.now) }
     {
-        let entries = entries_of(alloc, intervals)?;
-        let map = OrdMap::from_pairs(alloc, &entries)?;
-        Ok(Intervals { map })
+        let numbers = sorted_numbers(alloc, intervals)?;
+        let map = map_of(alloc, &numbers)?;
+        Ok(Intervals {
+            map: OrdMap::from_map(map),
+        })
     }
 
     /// The intervals of either set. O(m * log(n / m + 1)) for sets of m and n intervals, m at most n.
