@@ -1,7 +1,7 @@
 //! The settings of the tools that serve, and of the one that checks what they write. Their forks enter no gate.
 
 use crate::runs::{Asked, written};
-use crate::watch::sees_a_fork;
+use crate::watch::{await_one_thread, sees_a_fork};
 use fork_join::FreeGate;
 use script::push_part;
 use std::alloc::Global;
@@ -65,6 +65,7 @@ fn forks<R: Threads + Wait + Abort + Sync + Files + AllocGlobal>(
     asked: Asked,
     input: &[u8],
 ) -> bool {
+    await_one_thread(rt);
     let done = AtomicBool::new(false);
     let (_bytes, seen) = thread::join(
         rt,

@@ -14,6 +14,19 @@ fn are_more<R: Files + AllocGlobal + Abort>(rt: &R) -> bool {
     !status.contains("\nThreads:\t1\n") && !status.contains("\nThreads:\t2\n")
 }
 
+/// How often one looks for threads that have ended to be gone.
+const FEW_LOOKS: u64 = 1000;
+
+/// Waits for a while until the process has one thread: the system counts one that has ended for a moment more.
+pub(crate) fn await_one_thread<R: Files + AllocGlobal + Abort>(rt: &R) {
+    for _ in 0..FEW_LOOKS {
+        let status = fs::read_to_string(rt, "/proc/self/status").expect(rt, "the process's status");
+        if status.contains("\nThreads:\t1\n") {
+            return;
+        }
+    }
+}
+
 /// Looks at another thread until it has forked, or is done. Whether it was seen to have forked.
 pub(crate) fn sees_a_fork<R: Files + AllocGlobal + Abort>(rt: &R, done: &AtomicBool) -> bool {
     for _ in 0..LOOKS {

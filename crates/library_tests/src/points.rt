@@ -205,6 +205,75 @@ fn points_are_added_and_removed_on_one_thread(rt: HostRuntime) {
     assert_sums(&rt, alloc, &points, BEFORE);
 }
 
+/// A point that is there already, with another weight, and a new one.
+const TWO_MORE: &[(u64, u64, u64)] = &[(4, 4, 60), (1, 2, 25)];
+
+/// The points of `FIVE` and then of `TWO_MORE`, by x and then by y.
+const SIX: &[(u64, u64, u64)] = &[
+    (1, 1, 10),
+    (1, 2, 25),
+    (1, 5, 50),
+    (2, 1, 30),
+    (3, 2, 40),
+    (4, 4, 60),
+];
+
+#[test]
+fn points_are_added_to_those_that_are_given_up(rt: HostRuntime) {
+    let alloc = rt.alloc();
+    let list = listed(&rt, alloc, &FIVE);
+    let points = Points::new()
+        .add_into_alone(alloc, &list)
+        .expect(&rt, "memory");
+    let before = points.share(alloc).expect(&rt, "memory");
+    let more = listed(&rt, alloc, TWO_MORE);
+    let all = points.add_into(&rt, alloc, &FreeGate, Cut::new(2, 1), &more);
+    assert_list(&rt, alloc, &all.expect(&rt, "memory"), (0, 9, 0, 9), SIX);
+    assert_list(&rt, alloc, &before, (0, 9, 0, 9), BY_X);
+}
+
+/// The sum and the count without the point at (1, 5), with another weight at (1, 2).
+const CHANGED: &[Row] = &[((0, 9, 0, 9), 105, 4), ((0, 9, 2, 2), 65, 2)];
+
+#[test]
+fn a_point_is_set_and_one_removed_in_place(rt: HostRuntime) {
+    let alloc = rt.alloc();
+    let mut points = points_of(&rt, alloc, &FIVE);
+    let before = points.share(alloc).expect(&rt, "memory");
+    let set = points
+        .insert(alloc, point((1, 2, 25)))
+        .expect(&rt, "memory");
+    let gone = points.remove(alloc, 1, 5).expect(&rt, "memory");
+    let none = points.remove(alloc, 1, 5).expect(&rt, "memory");
+    assert_eq!(rt; (set, gone, none), (Some(20), Some(50), None));
+    assert_sums(&rt, alloc, &points, CHANGED);
+    assert_sums(&rt, alloc, &before, BEFORE);
+}
+
+/// The points of a list in even columns, or in odd ones.
+fn in_columns<R: Abort>(rt: &R, alloc: Global, list: &[Point], remainder: u64) -> Vec<Point> {
+    let mut some = Vec::new(alloc);
+    for point in list {
+        if point.x % 2 == remainder {
+            some.push(*point).expect(rt, "memory");
+        }
+    }
+    some
+}
+
+#[test]
+fn points_are_added_between_as_many(rt: HostRuntime) {
+    let alloc = rt.alloc();
+    let list = scattered(&rt, alloc, 3000);
+    let even = in_columns(&rt, alloc, &list, 0);
+    let odd = in_columns(&rt, alloc, &list, 1);
+    let points = Points::from_points(alloc, &even).expect(&rt, "memory");
+    let all = points.add_alone(alloc, &odd).expect(&rt, "memory");
+    let ends = (100, 2700, 50, 700);
+    let (sum, count) = walked(&list, rect(ends));
+    assert_sums(&rt, alloc, &all, &[(ends, sum, count)]);
+}
+
 #[test]
 fn points_of_a_rectangle_are_counted(rt: HostRuntime) {
     let points = points_of(&rt, rt.alloc(), &FIVE);

@@ -68,7 +68,7 @@ impl Board {
             return Ok(self.points);
         }
         self.points
-            .add(on.rt, alloc, on.gate, on.cut, &self.waiting)
+            .add_into(on.rt, alloc, on.gate, on.cut, &self.waiting)
     }
 }
 

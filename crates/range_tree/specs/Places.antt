@@ -10,6 +10,10 @@ use Rattle.map_model.specs.Parts.{slice}
 abbrev pub swapped : Pair64 → Pair64
 swapped place = record { first = place.second; second = place.first }
 
+-- the place at x and y
+abbrev pub place : ℕ → ℕ → Pair64
+place x y = record { first = x; second = y }
+
 -- both are numbers of 64 bits
 abbrev pub IsPlace : Pair64 → Type 0
 IsPlace place = (place.first < 2 ^ 64) × (place.second < 2 ^ 64)

@@ -16,7 +16,7 @@ use crate::rows::{Places, Rows};
 use crate::totals::RowTotal;
 use aug_map::Map;
 use aug_monoid::{NoMemory, Pair64, Share, Steps};
-use fork_join::{Cut, Gate};
+use fork_join::{Cut, Gate, On};
 use row_leaf::RowLeaf;
 use std::alloc::Global;
 use std::marker::{Brand, Model, Sync};
@@ -26,9 +26,9 @@ use std::thread::Threads;
 /// A map from (x, y) to weight, with the same points by (y, x), in blocks of 64 to 128 points that are stored as gaps between columns.
 pub type PointMap = Map<Places, RowLeaf, 64>;
 
-/// Points in the plane, one at a place. Contracts see the map from (x, y) to weight. No call changes its arguments.
+/// Points in the plane, one at a place. Contracts see the map from (x, y) to weight.
 pub struct Points {
-    map: PointMap,
+    pub(crate) map: PointMap,
 }
 
 impl Model for Points {
@@ -67,6 +67,15 @@ impl Points {
         ensures { result ≡ [] }
     {
         Points { map: Map::empty() }
+    }
+
+    // The map of points that are given up.
+    pub(crate) fn into_map(self) -> PointMap
+        ensures same { result.entries ≡ self }
+        ensures fit { AllKeys IsPlace result.entries }
+    {
+        let Points { map } = self;
+        map
     }
 
     /// These points, set in order, so that a later point replaces an earlier one at its place: what `add` makes of no points, at
@@ -119,7 +128,12 @@ impl Points {
         ensures { IfOk result (λ more. more ≡ after pair64_cmp self.now (puts (map entry_of points.now))) }
     {
         let entries = entries_of(alloc, points)?;
-        let map = self.map.multi_put(rt, alloc, gate, cut, &entries)?;
+        let map = with_entries(
+            On { rt, gate, cut },
+            alloc,
+            self.map.share(alloc)?,
+            &entries,
+        )?;
         Ok(Points { map })
     }
 
@@ -129,7 +143,10 @@ impl Points {
         ensures { IfOk result (λ more. more ≡ after pair64_cmp self.now (puts (map entry_of points.now))) }
     {
         let entries = entries_of(alloc, points)?;
-        let map = self.map.multi_put_alone(alloc, &entries)?;
+        let map = self
+            .map
+            .share(alloc)?
+            .multi_put_into_alone(alloc, &entries)?;
         Ok(Points { map })
     }
 
@@ -251,8 +268,24 @@ fn weight_at<C: Ledger>(alloc: Global, map: &PointMap, place: &Pair64, blank: Bl
     }
 }
 
+/// A map with entries put in order. A batch of more entries than the map has becomes a map first: that forks as it is made, where a
+/// list that is put into few blocks would not.
+pub(crate) fn with_entries<R: Threads + Sync, G: Gate>(
+    on: On<R, G>,
+    alloc: Global,
+    map: PointMap,
+    entries: &[(Pair64, u64)],
+) -> Result<PointMap, NoMemory>
+    ensures { IfOk result (λ more. more.entries ≡ after pair64_cmp map.entries (puts entries.now)) }
+{
+    if map.size() < entries.len() as u64 {
+        return map.multi_put(on.rt, alloc, on.gate, on.cut, entries);
+    }
+    map.multi_put_into(on.rt, alloc, on.gate, on.cut, entries)
+}
+
 /// Points as entries of the map.
-fn entries_of(alloc: Global, points: &[Point]) -> Result<Vec<(Pair64, u64)>, NoMemory>
+pub(crate) fn entries_of(alloc: Global, points: &[Point]) -> Result<Vec<(Pair64, u64)>, NoMemory>
     ensures same { IfOk result (λ entries. entries.items ≡ map entry_of points.now) }
     ensures fit { IfOk result (λ entries. AllKeys IsPlace entries.items) }
 {
