@@ -9,14 +9,12 @@ use Rattle.std.proofs.lemmas.Map.Made.{is_some-lookup}
 use Rattle.std.proofs.lemmas.Map.Views.{exact_unsigned_eq}
 use Rattle.std.proofs.lemmas.Option.{none-some, same_Some}
 use Rattle.map_model.specs.Entries.{IsIncreasing, lookup}
-use Rattle.map_model.specs.Operations.{build}
 use Rattle.map_model.specs.SetOperations.{difference, intersect, union}
 use Rattle.map_model.proofs.Differences.{IsIncreasing-difference, lookup-difference}
 use Rattle.map_model.proofs.Intersections.{IsIncreasing-intersect, lookup-intersect, of_both}
 use Rattle.map_model.proofs.Keys.{IsIncreasing-filter}
 use Rattle.map_model.proofs.Lookups.{first_found, lookup-filter, option_or-none}
 use Rattle.map_model.proofs.NatKeys.{nat_exact}
-use Rattle.map_model.proofs.Operations.{build-increasing}
 use Rattle.map_model.proofs.Unions.{IsIncreasing-union, lookup-union, united}
 use Rattle.graph_snap.specs.Batches.{has_elements}
 use Rattle.graph_snap.specs.Edges.{AreSets, IsFilled, IsGraph, Sets, edge_order, edges_of, elements, with_edges, without_edges}
@@ -204,13 +202,13 @@ module _ (g list : List (ℕ × ℕ)) (graph : IsGraph g) where
 
 -- ---- at the values that the program has
 
--- sets by rising vertex are put into a map as they stand
-pub built_sets : (changed shown batch : Sets) → AreSets changed → shown ≡ changed → batch ≡ build nat_cmp shown → batch ≡ changed
-built_sets changed shown batch are s b = b ∙ ap (build nat_cmp) s ∙ build-increasing nat_cmp_total nat_exact changed are.increasing
+-- edges in order are added as they would be in any order
+pub added_in_order : (sets : Sets) (edges g list new : List (ℕ × ℕ)) → edges_of sets ≡ g → AreSets sets → edges ≡ with_edges [] list → new ≡ with_edges (edges_of sets) edges → new ≡ with_edges g list
+added_in_order sets edges g list new is are e n =
+    n ∙ ap (with_edges (edges_of sets)) e ∙ with_sorted (edges_of sets) list (graph-edges_of sets are) ∙ ap (λ h. with_edges h list) is
 
 pub added : (sets changed batch : Sets) (g list new : List (ℕ × ℕ)) → edges_of sets ≡ g → AreSets sets → batch ≡ changed → edges_of changed ≡ with_edges [] list → new ≡ with_edges (edges_of sets) (edges_of batch) → new ≡ with_edges g list
-added sets changed batch g list new is are b e n =
-    n ∙ ap (with_edges (edges_of sets)) (ap edges_of b ∙ e) ∙ with_sorted (edges_of sets) list (graph-edges_of sets are) ∙ ap (λ h. with_edges h list) is
+added sets changed batch g list new is are b e n = added_in_order sets (edges_of batch) g list new is are (ap edges_of b ∙ e) n
 
 pub removed : (sets changed batch : Sets) (g list new : List (ℕ × ℕ)) → edges_of sets ≡ g → AreSets sets → batch ≡ changed → edges_of changed ≡ with_edges [] list → new ≡ without_edges (edges_of sets) (edges_of batch) → new ≡ without_edges g list
 removed sets changed batch g list new is are b e n =

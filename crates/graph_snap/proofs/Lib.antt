@@ -12,3 +12,5 @@ pub mod Elements
 pub mod Within
 pub mod Turned
 pub mod Paths
+pub mod Renewals
+pub mod Packed

@@ -20,7 +20,6 @@ use Rattle.map_model.specs.Operations.{after, build, puts}
 use Rattle.map_model.proofs.Keys.{AllKeys-append, AllKeys-map, IsBefore-from_append, IsIncreasing-append, IsIncreasing-back, IsIncreasing-front, above_all}
 use Rattle.map_model.proofs.Lookups.{lookup-append}
 use Rattle.map_model.proofs.NatKeys.{nat_exact}
-use Rattle.map_model.proofs.Operations.{build-increasing}
 use Rattle.graph_snap.specs.Batches.{as_key, as_pairs, ends, run}
 use Rattle.graph_snap.specs.Edges.{AreSets, IsFilled, IsGraph, Sets, edge_order, edges_of, elements, pairs_of, reversed, turned, with_edges}
 use Rattle.graph_snap.specs.declared.edge.Edge.{Edge}
@@ -30,7 +29,7 @@ use Rattle.graph_snap.proofs.Sets.{fan}
 
 -- other keys in the same order
 module _ {K L V : Type 0} (order : K → K → Ordering) (other : L → L → Ordering) (f : K → L) (same : (a b : K) → other (f a) (f b) ≡ order a b) where
-  abbrev renamed : List (K × V) → List (L × V)
+  abbrev pub renamed : List (K × V) → List (L × V)
   renamed m = map (λ e. (f e.0, e.1)) m
 
   filter-renamed : (p : L → Bool) (m : List (K × V)) → filter (λ e. p e.0) (renamed m) ≡ renamed (filter (λ e. p (f e.0)) m)
@@ -50,7 +49,7 @@ module _ {K L V : Type 0} (order : K → K → Ordering) (other : L → L → Or
       map-append (λ (e : K × V). let r : L × V = (f e.0, e.1) in r) (below order m k) ((k, v) ∷ above order m k)
       ∙ ap₂ (λ x y. x ++ (f k, v) ∷ y) (sym (below-renamed m k)) (sym (above-renamed m k))
 
-  after-renamed : (pairs m : List (K × V)) → renamed (after order m (puts pairs)) ≡ after other (renamed m) (puts (renamed pairs))
+  pub after-renamed : (pairs m : List (K × V)) → renamed (after order m (puts pairs)) ≡ after other (renamed m) (puts (renamed pairs))
   after-renamed [] m = refl
   after-renamed (p ∷ pairs) m = after-renamed pairs (set order m p.0 p.1) ∙ ap (λ x. after other x (puts (renamed pairs))) (set-renamed m p.0 p.1)
 
@@ -93,9 +92,9 @@ pub turned_order_is : (list : List Edge) (keys lent : List (Pair64 × Unit {0}))
 turned_order_is list keys lent pairs k l p = p ∙ ap as_pairs (l ∙ k) ∙ ordered_keys (keys_of_turned list) (turned (pairs_of list)) (keys-turned list)
 
 -- the set of one edge's end
-pub single_end : (edges : List (ℕ × ℕ)) (e : ℕ × ℕ) → length edges ≡ 1 → e ≡ get_or edges 0 e → build nat_cmp (ends edges) ≡ (e.1, tt) ∷ []
+pub single_end : (edges : List (ℕ × ℕ)) (e : ℕ × ℕ) → length edges ≡ 1 → e ≡ get_or edges 0 e → (e.1, tt) ∷ [] ≡ ends edges
 single_end [] e h is = absurd (let none : ⊥ = omega (arith, h) in none)
-single_end (x ∷ []) e h is = ap (λ (d : ℕ × ℕ). (d.1, tt) ∷ []) (sym is)
+single_end (x ∷ []) e h is = ap (λ (d : ℕ × ℕ). (d.1, tt) ∷ []) is
 single_end (x ∷ y ∷ edges) e h is = absurd (let none : ⊥ = omega (arith, h) in none)
 
 -- ---- the run of one vertex
@@ -244,18 +243,21 @@ module _ (g : List (ℕ × ℕ)) (graph : IsGraph g) (sets : Sets) (e : ℕ × �
     later = behind_later after_run refl;
   }
 
-  built_is : build nat_cmp set_here ≡ set_here
-  built_is = build-increasing nat_cmp_total nat_exact set_here rises
-
 -- one run more, at the values that the program has
-pub grouping_goes_on : (g : List (ℕ × ℕ)) → IsGraph g → (sets new : Sets) (rest here behind : List (ℕ × ℕ)) (e : ℕ × ℕ) (n : ℕ) (ns : List (ℕ × Unit {0})) → IsGrouping g sets rest → slice_get rest 0 ≡ Some e → n ≡ run e.0 rest → here ≡ take n rest → behind ≡ drop n rest → ns ≡ build nat_cmp (ends here) → new ≡ sets ++ (e.0, ns) ∷ [] → IsGrouping g new behind
+pub grouping_goes_on : (g : List (ℕ × ℕ)) → IsGraph g → (sets new : Sets) (rest here behind : List (ℕ × ℕ)) (e : ℕ × ℕ) (n : ℕ) (ns : List (ℕ × Unit {0})) → IsGrouping g sets rest → slice_get rest 0 ≡ Some e → n ≡ run e.0 rest → here ≡ take n rest → behind ≡ drop n rest → ns ≡ ends here → new ≡ sets ++ (e.0, ns) ∷ [] → IsGrouping g new behind
 grouping_goes_on g graph sets new [] here behind e n ns so_far f c h b s w = absurd (none-some e f)
 grouping_goes_on g graph sets new (d ∷ tail) here behind e n ns so_far f c h b s w =
     let first : d ≡ e = same_Some d e f in
     let count : n ≡ run d.0 (d ∷ tail) = c ∙ ap (λ x. run x.0 (d ∷ tail)) (sym first) in
-    let set : ns ≡ ends (take (run d.0 (d ∷ tail)) (d ∷ tail)) = s ∙ ap (λ x. build nat_cmp (ends x)) (h ∙ ap (λ k. take k (d ∷ tail)) count) ∙ built_is g graph sets d tail so_far in
+    let set : ns ≡ ends (take (run d.0 (d ∷ tail)) (d ∷ tail)) = s ∙ ap ends (h ∙ ap (λ k. take k (d ∷ tail)) count) in
     let all : new ≡ sets ++ (d.0, ends (take (run d.0 (d ∷ tail)) (d ∷ tail))) ∷ [] = w ∙ ap₂ (λ x y. sets ++ (x.0, y) ∷ []) (sym first) set in
     subst (λ m. IsGrouping g m behind) (sym all) (subst (IsGrouping g (sets ++ (d.0, ends (take (run d.0 (d ∷ tail)) (d ∷ tail))) ∷ [])) (sym (b ∙ ap (λ k. drop k (d ∷ tail)) count)) (grouping_more g graph sets d tail so_far))
+
+-- the ends of a run rise
+pub ends_rise : (g : List (ℕ × ℕ)) → IsGraph g → (sets : Sets) (rest here : List (ℕ × ℕ)) (e : ℕ × ℕ) (n : ℕ) → IsGrouping g sets rest → slice_get rest 0 ≡ Some e → n ≡ run e.0 rest → here ≡ take n rest → IsIncreasing nat_cmp (ends here)
+ends_rise g graph sets [] here e n so_far f c h = absurd (none-some e f)
+ends_rise g graph sets (d ∷ tail) here e n so_far f c h =
+    subst (λ x. IsIncreasing nat_cmp (ends x)) (sym (h ∙ ap (λ k. take k (d ∷ tail)) (c ∙ ap (λ x. run x.0 (d ∷ tail)) (sym (same_Some d e f))))) (rises g graph sets d tail so_far)
 
 pub grouping_ends : (g : List (ℕ × ℕ)) (sets : Sets) (rest : List (ℕ × ℕ)) → IsGrouping g sets rest → slice_get rest 0 ≡ None → edges_of sets ≡ g
 grouping_ends g sets [] so_far none = sym (append-nil (edges_of sets)) ∙ so_far.covers

@@ -4,12 +4,10 @@ use Rattle.std.specs.declared.cmp.Ordering.{Ordering}
 use Rattle.std.specs.declared.cmp.Ordering.TheVariants.{Less, Equal, Greater}
 use Rattle.std.specs.Ordering.{is_eq, nat_cmp, ordering_then}
 use Rattle.map_model.specs.Entries.{lookup}
-use Rattle.map_model.specs.Operations.{build}
 use Rattle.map_model.proofs.Lookups.{option_or-none}
 use Rattle.map_model.proofs.Members.{has_key}
-use Rattle.graph_snap.specs.Edges.{AreSets, IsReverse, Sets, edge_order, edges_of, elements, pairs_of, reversed, turned}
+use Rattle.graph_snap.specs.Edges.{IsReverse, Sets, edge_order, edges_of, elements, pairs_of, reversed, turned}
 use Rattle.graph_snap.specs.declared.edge.Edge.{Edge}
-use Rattle.graph_snap.proofs.Batched.{built_sets}
 use Rattle.graph_snap.proofs.Sets.{edge_exact, edge_total, found-with_edges, keys-elements}
 
 either_way : (a b : Ordering) → is_eq (ordering_then a b) ≡ is_eq (ordering_then b a)
@@ -44,5 +42,5 @@ pub is_reverse : (g new : List (ℕ × ℕ)) → new ≡ reversed g → IsRevers
 is_reverse g new is = subst (IsReverse g) (sym is) (reverse_is g)
 
 -- at the values that the program has
-pub reversed_is : (made shown batch : Sets) (g : List (ℕ × ℕ)) (list lent : List Edge) → pairs_of list ≡ g → lent ≡ list → AreSets made → edges_of made ≡ reversed (pairs_of lent) → shown ≡ made → batch ≡ build nat_cmp shown → edges_of batch ≡ reversed g
-reversed_is made shown batch g list lent l n are m s b = ap edges_of (built_sets made shown batch are s b) ∙ m ∙ ap (λ x. reversed (pairs_of x)) n ∙ ap reversed l
+pub reversed_is : (made batch : Sets) (g : List (ℕ × ℕ)) (list lent : List Edge) → pairs_of list ≡ g → lent ≡ list → edges_of made ≡ reversed (pairs_of lent) → batch ≡ made → edges_of batch ≡ reversed g
+reversed_is made batch g list lent l n m b = ap edges_of b ∙ m ∙ ap (λ x. reversed (pairs_of x)) n ∙ ap reversed l

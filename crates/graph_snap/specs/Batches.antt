@@ -1,5 +1,5 @@
 -- Batches of edges, and maps of sets that they change.
-use Rattle.std.specs.Prelude.{◌≡◌, ◌==◌, [], ◌∷◌, ℕ, suc, Bool, true, false, List, cond, length, map, not}
+use Rattle.std.specs.Prelude.{◌≡◌, ◌==◌, ◌/◌, ◌%◌, ◌^◌, [], ◌∷◌, ℕ, suc, Bool, true, false, List, cond, length, map, not}
 use Rattle.aug_monoid.specs.declared.pair64.Pair64.{Pair64}
 use Rattle.graph_snap.specs.Edges.{Sets, edges_of, with_edges, without_edges}
 use Rattle.graph_snap.specs.declared.edge.Edge.{Edge}
@@ -12,6 +12,10 @@ as_key false e = (record { first = e.from; second = e.to }, tt)
 -- keys as edges
 abbrev pub as_pairs : List (Pair64 × Unit {0}) → List (ℕ × ℕ)
 as_pairs keys = map (λ e. (e.0.first, e.0.second)) keys
+
+-- numbers as edges, the second vertex in the low 32 bits
+abbrev pub unpacked : List (ℕ × Unit {0}) → List (ℕ × ℕ)
+unpacked keys = map (λ e. (e.0 / 2 ^ 32, e.0 % 2 ^ 32)) keys
 
 -- the ends of edges, as keys without values
 abbrev pub ends : List (ℕ × ℕ) → List (ℕ × Unit {0})

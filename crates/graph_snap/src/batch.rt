@@ -5,6 +5,7 @@ ghost use Rattle.graph_snap.specs.Edges.{AreSets, IsGraph, edges_of, pairs_of, r
 
 use crate::edge::Edge;
 use crate::neighbours::Neighbours;
+use crate::packing::small_in_order;
 use aug_monoid::{NoMemory, Pair64};
 use fork_join::{Gate, On};
 use gathering::{Gives, set_of, set_of_alone};
@@ -60,10 +61,13 @@ fn in_order<R: Threads + Sync, G: Gate>(
     as_pairs(alloc, &keys)
 }
 
-// `in_order` on one thread.
-fn in_order_alone(alloc: Global, list: &[Edge]) -> Result<Vec<(u64, u64)>, NoMemory>
+/// Edges in order, each once, on one thread. For n edges it takes about n * log n work.
+pub(crate) fn in_order_alone(alloc: Global, list: &[Edge]) -> Result<Vec<(u64, u64)>, NoMemory>
     ensures { IfOk result (λ edges. edges.items ≡ with_edges [] (pairs_of list.now)) }
 {
+    if let Some(edges) = small_in_order(alloc, list)? {
+        return Ok(edges);
+    }
     let keys = set_of_alone(alloc, &Keys { turned: false }, list)?;
     as_pairs(alloc, &keys)
 }
@@ -76,8 +80,8 @@ fn turned_in_order(alloc: Global, list: &[Edge]) -> Result<Vec<(u64, u64)>, NoMe
     as_pairs(alloc, &keys)
 }
 
-// How many edges at the start are from a vertex.
-fn run_length(edges: &[(u64, u64)], from: u64) -> usize
+/// How many edges at the start are from a vertex.
+pub(crate) fn run_length(edges: &[(u64, u64)], from: u64) -> usize
     ensures { result ≡ run from edges.now }
 {
     for at in 0..edges.len() {
@@ -98,7 +102,7 @@ fn grouped(alloc: Global, edges: &[(u64, u64)]) -> Result<Vec<(u64, Neighbours)>
     let mut rest = edges;
     while let Some(edge) = rest.first() {
         let (run, later) = rest.split_at(run_length(rest, edge.0));
-        let set = Neighbours::ends_of(alloc, run)?;
+        let set = Neighbours::of_run(alloc, run)?;
         sets.push((edge.0, set))?;
         rest = later;
     }

@@ -4,7 +4,8 @@ ghost use Rattle.graph_snap.specs.Edges.{AreSets, IsGraph, IsReverse, edges_of, 
 ghost use Rattle.graph_snap.specs.Edges.{reversed, sources, with_edges, without_edges};
 ghost use Rattle.graph_snap.specs.Walks.{HasDistances, IsLeastPath, IsOutOfReach, reach, reach_within};
 
-use crate::batch::{sets_of, sets_of_alone, turned_sets};
+use crate::adding::with_edges_into_alone;
+use crate::batch::{in_order_alone, sets_of, sets_of_alone, turned_sets};
 use crate::counting::edges_in;
 use crate::edge::{Edge, Reached};
 use crate::iterators::{NeighboursIter, VerticesIter, elements_at, vertices_of};
@@ -14,7 +15,7 @@ use crate::search::search;
 use crate::search_alone::search_within;
 use crate::vertices::{
     Vertices, degree_at, has_edge, neighbours_at, with_sets, with_sets_alone, with_sets_into,
-    with_sets_into_alone, without_sets, without_sets_alone,
+    without_sets, without_sets_alone,
 };
 use aug_map::PlainMap;
 use aug_monoid::{NoMemory, Share};
@@ -177,7 +178,7 @@ impl Graph {
     {
         let on = On { rt, gate, cut };
         let changed = sets_of(on, alloc, list)?;
-        let batch = Vertices::build(rt, alloc, gate, cut, &changed)?;
+        let batch = Vertices::of_vec(alloc, changed)?;
         let vertices = with_sets(on, alloc, &self.vertices, &batch)?;
         let edges = edges_in(&vertices)?;
         Ok(Graph { vertices, edges })
@@ -188,7 +189,7 @@ impl Graph {
         ensures { IfOk result (λ graph. graph ≡ with_edges self.now (pairs_of list.now)) }
     {
         let changed = sets_of_alone(alloc, list)?;
-        let batch = Vertices::build_alone(alloc, &changed)?;
+        let batch = Vertices::of_vec(alloc, changed)?;
         let vertices = with_sets_alone(alloc, &self.vertices, &batch)?;
         let edges = edges_in(&vertices)?;
         Ok(Graph { vertices, edges })
@@ -218,8 +219,8 @@ impl Graph {
     pub fn add_edges_into_alone(self, alloc: Global, list: &[Edge]) -> Result<Graph, NoMemory>
         ensures { IfOk result (λ graph. graph ≡ with_edges self (pairs_of list.now)) }
     {
-        let changed = sets_of_alone(alloc, list)?;
-        let vertices = with_sets_into_alone(alloc, self.into_vertices(), &changed)?;
+        let edges = in_order_alone(alloc, list)?;
+        let vertices = with_edges_into_alone(alloc, self.into_vertices(), &edges)?;
         let edges = edges_in(&vertices)?;
         Ok(Graph { vertices, edges })
     }
@@ -237,7 +238,7 @@ impl Graph {
     {
         let on = On { rt, gate, cut };
         let changed = sets_of(on, alloc, list)?;
-        let batch = Vertices::build(rt, alloc, gate, cut, &changed)?;
+        let batch = Vertices::of_vec(alloc, changed)?;
         let vertices = without_sets(on, alloc, &self.vertices, &batch)?;
         let edges = edges_in(&vertices)?;
         Ok(Graph { vertices, edges })
@@ -248,7 +249,7 @@ impl Graph {
         ensures { IfOk result (λ graph. graph ≡ without_edges self.now (pairs_of list.now)) }
     {
         let changed = sets_of_alone(alloc, list)?;
-        let batch = Vertices::build_alone(alloc, &changed)?;
+        let batch = Vertices::of_vec(alloc, changed)?;
         let vertices = without_sets_alone(alloc, &self.vertices, &batch)?;
         let edges = edges_in(&vertices)?;
         Ok(Graph { vertices, edges })
@@ -262,7 +263,7 @@ impl Graph {
     {
         let list = self.list(alloc)?;
         let sets = turned_sets(alloc, &list)?;
-        let vertices = Vertices::build_alone(alloc, &sets)?;
+        let vertices = Vertices::of_vec(alloc, sets)?;
         let edges = edges_in(&vertices)?;
         Ok(Graph { vertices, edges })
     }

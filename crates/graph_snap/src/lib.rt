@@ -10,6 +10,7 @@
 //! Tests: `library_tests`. Wrong bodies: here, in `wrong-bodies/`.
 #![tactic(auto)]
 
+mod adding;
 mod batch;
 mod counting;
 mod cross;
@@ -20,6 +21,7 @@ mod iterators;
 mod least_path;
 mod listing;
 mod neighbours;
+mod packing;
 mod search;
 mod search_alone;
 mod vertices;

@@ -3,7 +3,6 @@ ghost use Rattle.std.specs.Prelude.{◌≡◌, [], is_some, length, IfOk, IfSome
 ghost use Rattle.std.specs.Map.{keys_of};
 ghost use Rattle.std.specs.Ordering.{nat_cmp};
 ghost use Rattle.map_model.specs.Entries.{IsIncreasing, lookup};
-ghost use Rattle.map_model.specs.Operations.{build};
 ghost use Rattle.map_model.specs.SetOperations.{difference};
 ghost use Rattle.graph_snap.specs.Batches.{ends, has_elements};
 ghost use Rattle.graph_snap.specs.Merging.{IsOnlyElement, merged, with_element};
@@ -53,15 +52,32 @@ fn ends(alloc: Global, run: &[(u64, u64)]) -> Result<Vec<(u64, ())>, NoMemory>
     Ok(keys)
 }
 
-// The set of the ends of edges from one vertex.
-fn set_of_ends(alloc: Global, run: &[(u64, u64)]) -> Result<CodedMap<Nothing<u64, ()>>, NoMemory>
-    ensures { IfOk result (λ set. set.entries ≡ build nat_cmp (ends run.now)) }
+// The set of the ends of edges in order from one vertex.
+fn set_of_run(alloc: Global, run: &[(u64, u64)]) -> Result<CodedMap<Nothing<u64, ()>>, NoMemory>
+    requires { IsIncreasing nat_cmp (ends run.now) }
+    ensures { IfOk result (λ set. set.entries ≡ ends run.now) }
 {
     if run.len() == 1 {
         return CodedMap::single(alloc, run[0].1, ());
     }
     let keys = ends(alloc, run)?;
-    CodedMap::build_alone(alloc, &keys)
+    CodedMap::of_slice(alloc, &keys)
+}
+
+// A set with the ends of edges in order from one vertex. A single end, as most are in a batch of edges, is put.
+fn set_with_run(
+    alloc: Global,
+    set: &CodedMap<Nothing<u64, ()>>,
+    run: &[(u64, u64)],
+) -> Result<CodedMap<Nothing<u64, ()>>, NoMemory>
+    requires { IsIncreasing nat_cmp (ends run.now) }
+    ensures { IfOk result (λ more. more.entries ≡ merged set.now.entries (ends run.now)) }
+{
+    if run.len() == 1 {
+        return put_element::<Brand>(alloc, set, run[0].1, Blank::new(1));
+    }
+    let more = set_of_run(alloc, run)?;
+    set.union_alone(alloc, &more, &First)
 }
 
 // The only element, where there is one and no more.
@@ -151,11 +167,21 @@ impl Neighbours {
         self.set.contains_key(&element, &mut steps)
     }
 
-    /// The set of the ends of edges.
-    pub(crate) fn ends_of(alloc: Global, run: &[(u64, u64)]) -> Result<Neighbours, NoMemory>
-        ensures { IfOk result (λ set. set ≡ build nat_cmp (ends run.now)) }
+    /// The set of the ends of edges in order from one vertex.
+    pub(crate) fn of_run(alloc: Global, run: &[(u64, u64)]) -> Result<Neighbours, NoMemory>
+        requires { IsIncreasing nat_cmp (ends run.now) }
+        ensures { IfOk result (λ set. set ≡ ends run.now) }
     {
-        let set = set_of_ends(alloc, run)?;
+        let set = set_of_run(alloc, run)?;
+        Ok(Neighbours { set })
+    }
+
+    /// The set with the ends of edges in order from one vertex.
+    pub(crate) fn with_run(&self, alloc: Global, run: &[(u64, u64)]) -> Result<Neighbours, NoMemory>
+        requires { IsIncreasing nat_cmp (ends run.now) }
+        ensures { IfOk result (λ set. set ≡ merged self.now (ends run.now)) }
+    {
+        let set = set_with_run(alloc, &self.set, run)?;
         Ok(Neighbours { set })
     }
 

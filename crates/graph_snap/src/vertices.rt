@@ -141,20 +141,6 @@ pub(crate) fn with_sets_into<R: Threads + Sync, G: Gate>(
     vertices.union_into(on.rt, alloc, on.gate, on.cut, batch, &Merge)
 }
 
-/// `with_sets_into` on one thread.
-pub(crate) fn with_sets_into_alone(
-    alloc: Global,
-    vertices: Vertices,
-    batch: &[(u64, Neighbours)],
-) -> Result<Vertices, NoMemory>
-    requires vertices { AreSets vertices.entries }
-    requires batch { AreSets batch.now }
-    ensures sets { IfOk result (λ map. AreSets map.entries) }
-    ensures edges { IfOk result (λ map. IsUnited vertices.entries batch.now map.entries) }
-{
-    vertices.union_into_alone(alloc, batch, &Merge)
-}
-
 /// The map without the edges of another one. A vertex that has no edge left is no key.
 pub(crate) fn without_sets<R: Threads + Sync, G: Gate>(
     on: On<R, G>,

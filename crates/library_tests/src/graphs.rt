@@ -249,6 +249,66 @@ fn edges_are_added_and_cut_on_one_thread(rt: HostRuntime) {
     assert_edges(&rt, alloc, &all, ALL);
 }
 
+/// The first vertex that does not fit 32 bits. Edges of smaller ones alone are put in order another way.
+const WIDE: u64 = 0x1_0000_0000;
+
+/// Vertices on both sides of it, of which some end in the bits of others; one edge is named twice, and the last one alone has none
+/// beyond.
+const FAR: [(u64, u64); 8] = [
+    (WIDE + 1, 1),
+    (WIDE - 1, WIDE),
+    (1, WIDE + 1),
+    (WIDE + 1, 1),
+    (u64::MAX, 0),
+    (WIDE, WIDE - 1),
+    (0, u64::MAX),
+    (1, 1),
+];
+
+/// The edges of `FAR` in order, each once.
+const FAR_ALL: &[(u64, u64)] = &[
+    (0, u64::MAX),
+    (1, 1),
+    (1, WIDE + 1),
+    (WIDE - 1, WIDE),
+    (WIDE, WIDE - 1),
+    (WIDE + 1, 1),
+    (u64::MAX, 0),
+];
+
+/// Two of its edges, and two that it hasn't.
+const FAR_CUT: [(u64, u64); 4] = [(u64::MAX, 0), (WIDE + 1, WIDE + 1), (1, WIDE + 1), (2, 1)];
+
+/// What they leave, with the edges of `LAST_SMALL` too.
+const FAR_LEFT: &[(u64, u64)] = &[
+    (0, 0),
+    (0, u64::MAX),
+    (1, 1),
+    (WIDE - 1, 0),
+    (WIDE - 1, WIDE - 1),
+    (WIDE - 1, WIDE),
+    (WIDE, WIDE - 1),
+    (WIDE + 1, 1),
+];
+
+/// The last vertex that fits 32 bits.
+const LAST_SMALL: [(u64, u64); 3] = [(WIDE - 1, WIDE - 1), (WIDE - 1, 0), (0, 0)];
+
+#[test]
+fn vertices_beyond_32_bits(rt: HostRuntime) {
+    let alloc = rt.alloc();
+    let list = edges(&rt, alloc, &FAR);
+    let all = Graph::new().add_edges_alone(alloc, &list);
+    let all = all.expect(&rt, "memory");
+    assert_edges(&rt, alloc, &all, FAR_ALL);
+    assert_edges(&rt, alloc, &graph_of(&rt, alloc, &FAR, &[]), FAR_ALL);
+    let left = all.cut_edges_alone(alloc, &edges(&rt, alloc, &FAR_CUT));
+    let left = left.expect(&rt, "memory");
+    let more = left.add_edges_into_alone(alloc, &edges(&rt, alloc, &LAST_SMALL));
+    assert_edges(&rt, alloc, &more.expect(&rt, "memory"), FAR_LEFT);
+    assert_within(&rt, alloc, &all, 1, 9, &[(1, 0), (WIDE + 1, 1)]);
+}
+
 /// From 0 to each of 1 to 500, and from each of these to 501.
 fn fan<R: Abort>(rt: &R, alloc: Global) -> Vec<(u64, u64)> {
     let mut pairs = Vec::new(alloc);
