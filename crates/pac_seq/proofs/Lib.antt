@@ -1,4 +1,5 @@
 mod Backs
+mod Carried
 mod Fronts
 mod Passes
 mod Past

@@ -4,7 +4,7 @@ ghost use Rattle.pac_seq.specs.Passing.{IsFirstOf, StaysPassed, passes_at, passe
 
 use crate::seq::SeqOver;
 use aug_monoid::{Steps, Totals};
-use seq_core::{BlockSize, Fold, Look, Part, SumTop};
+use seq_core::{BlockSize, Fold, Look, SeqTree, SumTop};
 use std::alloc::Global;
 use std::sync::ledger::Ledger;
 
@@ -57,48 +57,59 @@ fn first_in_block<F: Fold, T: SumTest<F>, C: Ledger>(
 
 /// The first place of a sequence at which the sum of what stands before it, which does not pass, and of its items passes: beside one
 /// path it takes stored sums.
+// It goes down in a loop, since a recursion would hand the place up again through each level, and take whole sums of which the test
+// may ask a part alone.
 fn first_in<F: Fold, S: BlockSize, T: SumTest<F>, C: Ledger>(
     alloc: Global,
-    part: Part<'_, F, S>,
+    tree: &SeqTree<F, S>,
     before: F::Sum,
     test: &T,
     steps: &mut Steps<C>,
 ) -> Option<u64>
     requires fits { F.Fits before }
     requires not_yet { T.admits test.now before ≡ false }
-    ensures value { IsFirstOf (length part.entry.tree.now.items) (passes_behind F.image_of F.unit_of F.combined (T.admits test.now) before part.entry.tree.now.items) result }
-    ensures cost { steps.new ≤ steps.old + (2 * part.entry.tree.now.height + 2 * S.SIZE) }
+    ensures value { IsFirstOf (length tree.now.items) (passes_behind F.image_of F.unit_of F.combined (T.admits test.now) before tree.now.items) result }
+    ensures cost { steps.new ≤ steps.old + (2 * tree.now.height + 2 * S.SIZE) }
 {
-    let _size = part.tree.size(); // for the proof alone: a place fits its type
-    match part.tree.look() {
-        Look::Empty => None,
-        Look::Block { items } => first_in_block::<F, T, C>(items, before, test, steps),
-        Look::Node {
-            before: places,
-            left,
-            item,
-            right,
-        } => {
-            let front = F::combine(&before, &left.sum(alloc), steps);
-            if test.passes(&front) {
-                return first_in(alloc, Part { tree: left }, before, test, steps);
+    let _size = tree.size(); // for the proof alone: a place fits its type
+    let mut part = tree;
+    let mut sum = before;
+    let mut place = 0;
+    'down: loop {
+        match part.look() {
+            Look::Empty => return None,
+            Look::Block { items } => {
+                return match first_in_block::<F, T, C>(items, sum, test, steps) {
+                    Some(found) => Some(place + found),
+                    None => None,
+                };
             }
-            let front = F::combine(&front, &F::of(item), steps);
-            if test.passes(&front) {
-                return Some(places);
-            }
-            match first_in(alloc, Part { tree: right }, front, test, steps) {
-                Some(behind) => Some(places + 1 + behind),
-                None => None,
+            Look::Node {
+                before: places,
+                left,
+                item,
+                right,
+            } => {
+                let front = F::combine(&sum, &left.sum(alloc), steps);
+                if test.passes(&front) {
+                    part = left;
+                    continue;
+                }
+                sum = F::combine(&front, &F::of(item), steps);
+                if test.passes(&sum) {
+                    return Some(place + places);
+                }
+                part = right;
+                place += places + 1;
             }
         }
     }
 }
 
 impl<F: Fold, S: BlockSize> SeqOver<F, S> {
-    /// The first place with which the sum of the items passes: the item that a number drawn up to the sum of all weights falls on, the
-    /// line that has a byte of a text. None exactly where the sum up to no place does. It takes stored sums beside one path and one block, and
-    /// no memory.
+    /// The least place, counted from 0, such that the sum of the items up to and including it passes: the item that a number drawn
+    /// up to the sum of all weights falls on, the line that has a byte of a text. None exactly where the sum up to no place does. It
+    /// takes stored sums beside one path and one block, and no memory.
     pub fn first_where<T: SumTest<F>, C: Ledger>(
         &self,
         alloc: Global,
@@ -110,7 +121,7 @@ impl<F: Fold, S: BlockSize> SeqOver<F, S> {
     {
         let none = F::unit();
         if !test.passes(&none) {
-            return first_in(alloc, Part { tree: &self.tree }, none, test, steps);
+            return first_in(alloc, &self.tree, none, test, steps);
         }
         if self.size() == 0 { None } else { Some(0) }
     }

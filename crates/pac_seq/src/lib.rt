@@ -3,7 +3,7 @@
 //! A `Seq` is a list of items. Appends, cuts and changes of one item copy one path and at most two blocks of the tree that a
 //! sequence is kept as, so that old sequences stay as they are, and what old and new ones have in common is kept once. `set_mut` and
 //! `push_mut` change the sequence that they are called on, in place what it alone owns. What the items of any run sum up to is found
-//! from stored sums. `Fold` says what a sum is.
+//! from stored sums. What a sum is, a `Fold` says: `SumTop` is at hand, and docs/AUGMENTS.md shows how to write one.
 //!
 //! Tests: `seq_tests`. Wrong bodies: here, in `wrong-bodies/`.
 #![tactic(auto)]

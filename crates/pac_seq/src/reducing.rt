@@ -70,7 +70,8 @@ fn reduce_part<F: Fold, S: BlockSize, C: Ledger>(
 
 impl<F: Fold, S: BlockSize> SeqOver<F, S> {
     /// The sum of the first `count` items after the first `from` items, or of as many as there are, from the stored sums beside
-    /// two paths and at most two blocks. It takes no memory.
+    /// two paths and at most two blocks. It takes no memory. To get the sum with no counter at hand, take
+    /// `slice(alloc, from, to)?.sum(alloc)`.
     pub fn reduce<C: Ledger>(
         &self,
         alloc: Global,

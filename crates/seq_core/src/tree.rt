@@ -34,18 +34,18 @@ pub(crate) struct Block<F: Fold> {
     pub(crate) sum: F::Sum,
 }
 
-/// An item between two sides, with the number of items before it, and the number, the height and the sum of all. What a walk to a
-/// place reads stands first, on one line of the cache where it can.
+/// An item between two sides, with the number of items before it, and the number, the height and the sum of all. What walks to a
+/// place and to a sum read stands first and side by side, on one line of the cache where it can.
 #[cycle(tree)]
 #[derive(Drop)]
 pub(crate) struct Node<F: Fold, S: BlockSize> {
+    pub(crate) item: F::Item,
     pub(crate) before: u64,
     pub(crate) left: SeqTree<F, S>,
     pub(crate) right: SeqTree<F, S>,
-    pub(crate) item: F::Item,
+    pub(crate) sum: F::Sum,
     pub(crate) size: u64,
     pub(crate) height: u32,
-    pub(crate) sum: F::Sum,
 }
 
 /// A sequence in a struct of its own, as recursions take it. It is there for the proof alone.
