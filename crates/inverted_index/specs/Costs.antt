@@ -1,16 +1,11 @@
 -- What the first documents of a term take, by the number of postings: pairs of a document and a term that it has.
 use Rattle.std.specs.Prelude.{ℕ, ◌+◌, ◌*◌, List, [], ◌∷◌, length}
-use Rattle.map_model.specs.Balance.{IsAtMostLevels}
 use Rattle.inverted_index.specs.Queries.{Document}
 
 -- how many postings there are
 abbrev pub posting_count : List Document → ℕ
 posting_count [] = 0
 posting_count (d ∷ ds) = length d.1 + posting_count ds
-
--- no map of so many entries is higher, in blocks of 32 to 64
-abbrev pub IsHighest : ℕ → ℕ → Type 0
-IsHighest count height = IsAtMostLevels 32 height (count + 1)
 
 -- the most steps of a search for the heaviest document and of its removal: 3 * h + 65 and 64 * (h + 1) * 34 + 9
 abbrev pub removal_cost : ℕ → ℕ

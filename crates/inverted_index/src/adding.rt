@@ -20,10 +20,12 @@ use std::marker::{Brand, Sync};
 use std::sync::ledger::{Blank, Ledger};
 use std::thread::Threads;
 
-/// What adding a document answers: it was there, or the index with it, and how many different terms it has.
+/// What adding a document answers.
 #[derive(Drop)]
 pub enum Added {
+    /// The document was there already.
     Known,
+    /// The index with the document, and how many different terms it has.
     New { index: Index, terms: u64 },
 }
 

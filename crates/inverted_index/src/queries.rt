@@ -1,9 +1,10 @@
 //! Questions to an index.
 ghost use Rattle.std.specs.Prelude.{ℕ, ◌≡◌, ◌+◌, ◌≤◌, IfOk, is_some, length};
 ghost use Rattle.std.specs.Ordering.{nat_cmp};
+ghost use Rattle.map_model.specs.Balance.{IsAtMostLevels};
 ghost use Rattle.map_model.specs.Entries.{IsIncreasing, lookup};
 ghost use Rattle.map_model.specs.SetOperations.{difference};
-ghost use Rattle.inverted_index.specs.Costs.{IsHighest, posting_count, top_cost};
+ghost use Rattle.inverted_index.specs.Costs.{posting_count, top_cost};
 ghost use Rattle.inverted_index.specs.Merging.{postings_at};
 ghost use Rattle.inverted_index.specs.Queries.{AreTop, all_of, any_of, having, hits_of, is_known, top, without};
 ghost use Rattle.aug_monoid.specs.Fresh.{IsFresh};
@@ -176,8 +177,8 @@ impl Index {
     }
 
     /// `top` with its steps counted: comparisons of terms and of documents, looks at greatest weights, and their combinations. They are
-    /// at most `k * (2179 * height + 2250) + height + 9`, for each `height` that no map of so many postings exceeds. The comparisons of
-    /// a sort, by which many documents of few are found, are not counted.
+    /// at most `k * (2179 * height + 2250) + height + 9`, for each `height` that no map of so many postings in blocks of 32 to 64
+    /// exceeds. The comparisons of a sort, by which many documents of few are found, are not counted.
     pub fn top_counted<C: Ledger>(
         &self,
         alloc: Global,
@@ -187,7 +188,7 @@ impl Index {
     ) -> Result<Vec<Hit>, NoMemory>
         ensures hits { IfOk result (λ hits. hits.items ≡ hits_of (top self.now k term.now)) }
         ensures ranks { IfOk result (λ hits. AreTop (having self.now term.now) k hits.items) }
-        ensures cost { (height : ℕ) → IsHighest (posting_count self.now) height → steps.new ≤ steps.old + top_cost k height }
+        ensures cost { (height : ℕ) → IsAtMostLevels 32 height (posting_count self.now + 1) → steps.new ≤ steps.old + top_cost k height }
     {
         let _height = self.lists.height(); // for the proof alone: how high so many terms may be
         let list = find_list(alloc, &self.lists, term, steps)?;
