@@ -12,65 +12,80 @@
 //!
 //! Want of memory is an error of the format.
 
+/// The forms of a map from numbers.
+macro_rules! from_numbers {
+    ($Map:ident, $entries:literal) => {
+        use pam::$Map;
+        use serde::de::{Deserializer, Error, MapAccess, Visitor};
+        use serde::ser::{Error as _, Serializer};
+        use std::fmt;
+
+        /// O(n).
+        pub fn serialize<S: Serializer>(map: &$Map, serializer: S) -> Result<S::Ok, S::Error> {
+            if serializer.is_human_readable() {
+                return serializer.collect_map(map.iter());
+            }
+            let bytes = map.to_bytes().map_err(S::Error::custom)?;
+            serializer.serialize_bytes(&bytes)
+        }
+
+        /// O(n) where the keys rise, else O(n log n).
+        pub fn deserialize<'de, D: Deserializer<'de>>(deserializer: D) -> Result<$Map, D::Error> {
+            if deserializer.is_human_readable() {
+                deserializer.deserialize_map(Entries)
+            } else {
+                deserializer.deserialize_bytes(Bytes)
+            }
+        }
+
+        struct Entries;
+
+        impl<'de> Visitor<'de> for Entries {
+            type Value = $Map;
+
+            fn expecting(&self, f: &mut fmt::Formatter) -> fmt::Result {
+                f.write_str($entries)
+            }
+
+            fn visit_map<A: MapAccess<'de>>(self, mut access: A) -> Result<$Map, A::Error> {
+                let (mut keys, mut vals) = (Vec::new(), Vec::new());
+                while let Some((key, val)) = access.next_entry()? {
+                    keys.push(key);
+                    vals.push(val);
+                }
+                $Map::from_slices(&keys, &vals).map_err(A::Error::custom)
+            }
+        }
+
+        struct Bytes;
+
+        impl Visitor<'_> for Bytes {
+            type Value = $Map;
+
+            fn expecting(&self, f: &mut fmt::Formatter) -> fmt::Result {
+                f.write_str("the bytes of a map")
+            }
+
+            fn visit_bytes<E: Error>(self, bytes: &[u8]) -> Result<$Map, E> {
+                $Map::from_bytes(bytes).map_err(E::custom)
+            }
+        }
+    };
+}
+
 /// A map: in formats that people read a map in the order of its keys, of which a later entry of a key wins, and in others the bytes of
 /// `Map::to_bytes`, whose checksum is looked at.
 pub mod map {
-    use pam::Map;
-    use serde::de::{Deserializer, Error, MapAccess, Visitor};
-    use serde::ser::{Error as _, Serializer};
-    use std::fmt;
-
-    /// O(n).
-    pub fn serialize<S: Serializer>(map: &Map, serializer: S) -> Result<S::Ok, S::Error> {
-        if serializer.is_human_readable() {
-            return serializer.collect_map(map.iter());
-        }
-        let bytes = map.to_bytes().map_err(S::Error::custom)?;
-        serializer.serialize_bytes(&bytes)
-    }
-
-    /// O(n) where the keys rise, else O(n log n).
-    pub fn deserialize<'de, D: Deserializer<'de>>(deserializer: D) -> Result<Map, D::Error> {
-        if deserializer.is_human_readable() {
-            deserializer.deserialize_map(Entries)
-        } else {
-            deserializer.deserialize_bytes(Bytes)
-        }
-    }
-
-    struct Entries;
-
-    impl<'de> Visitor<'de> for Entries {
-        type Value = Map;
-
-        fn expecting(&self, f: &mut fmt::Formatter) -> fmt::Result {
-            f.write_str("a map of u64 to u64")
-        }
-
-        fn visit_map<A: MapAccess<'de>>(self, mut access: A) -> Result<Map, A::Error> {
-            let (mut keys, mut vals) = (Vec::new(), Vec::new());
-            while let Some((key, val)) = access.next_entry()? {
-                keys.push(key);
-                vals.push(val);
-            }
-            Map::from_slices(&keys, &vals).map_err(A::Error::custom)
-        }
-    }
-
-    struct Bytes;
-
-    impl Visitor<'_> for Bytes {
-        type Value = Map;
-
-        fn expecting(&self, f: &mut fmt::Formatter) -> fmt::Result {
-            f.write_str("the bytes of a map")
-        }
-
-        fn visit_bytes<E: Error>(self, bytes: &[u8]) -> Result<Map, E> {
-            Map::from_bytes(bytes).map_err(E::custom)
-        }
-    }
+    from_numbers!(Map, "a map of u64 to u64");
 }
+
+/// A map with signed keys, in the forms of one with unsigned keys. The bytes of `SignedMap::to_bytes` say nothing of signs: read as a
+/// `Map` they are one whose keys are moved up by 2^63.
+pub mod signed_map {
+    from_numbers!(SignedMap, "a map of i64 to u64");
+}
+
+pub mod text_map;
 
 /// A sequence: the list of its items.
 pub mod seq {

@@ -1,8 +1,8 @@
 //! What each type looks like in JSON, and in a format of bytes.
 
-use pam::{Intervals, Map, Seq};
-use serde::de::value::{BytesDeserializer, Error as Refused};
-use serde::de::{Deserializer, Visitor};
+use pam::{Intervals, Map, Seq, SignedMap, TextMap};
+use serde::de::value::{BytesDeserializer, Error as Refused, MapDeserializer};
+use serde::de::{Deserializer, IntoDeserializer, Visitor};
 use serde::forward_to_deserialize_any;
 use serde_json::{Deserializer as FromJson, Serializer as ToJson};
 
@@ -53,6 +53,14 @@ impl<'de> Deserializer<'de> for Packed<'de> {
     }
 }
 
+impl<'de> IntoDeserializer<'de, Refused> for Packed<'de> {
+    type Deserializer = Self;
+
+    fn into_deserializer(self) -> Self {
+        self
+    }
+}
+
 #[test]
 fn a_map_of_bytes_is_that_of_its_encoding() {
     let map = Map::from([(1, 10), (2, 20), (500, 7)]);
@@ -64,6 +72,38 @@ fn a_map_of_bytes_is_that_of_its_encoding() {
         assert!(pam_serde::map::deserialize(Packed(&other)).is_err(), "{turned}");
         assert!(pam_serde::map::deserialize(Packed(&bytes[..turned])).is_err(), "{turned}");
     }
+}
+
+#[test]
+fn signed_keys_are_in_their_order() {
+    let map = SignedMap::from([(1, 10), (-3, 30), (i64::MIN, u64::MAX)]);
+    let text = json(&map, |map, out| pam_serde::signed_map::serialize(map, out));
+    assert_eq!(text, r#"{"-9223372036854775808":18446744073709551615,"-3":30,"1":10}"#);
+    assert_eq!(pam_serde::signed_map::deserialize(&mut FromJson::from_str(&text)).unwrap(), map);
+    assert!(pam_serde::signed_map::deserialize(&mut FromJson::from_str(r#"{"9223372036854775808":1}"#)).is_err());
+    assert_eq!(pam_serde::signed_map::deserialize(Packed(&map.to_bytes().unwrap())).unwrap(), map);
+}
+
+#[test]
+fn keys_of_bytes_are_texts_where_people_read() {
+    let map = TextMap::from([("pear", 1), ("", 2), ("b\u{e4}r\"", 3)]);
+    let text = json(&map, |map, out| pam_serde::text_map::serialize(map, out));
+    assert_eq!(text, "{\"\":2,\"b\u{e4}r\\\"\":3,\"pear\":1}");
+    assert_eq!(pam_serde::text_map::deserialize(&mut FromJson::from_str(&text)).unwrap(), map);
+    let twice = pam_serde::text_map::deserialize(&mut FromJson::from_str(r#"{"b":1,"a":5,"b":9}"#)).unwrap();
+    assert_eq!(twice, TextMap::from([("a", 5), ("b", 9)]));
+    for text in ["[1]", r#"{"a":-1}"#, r#"{"a":1"#] {
+        assert!(pam_serde::text_map::deserialize(&mut FromJson::from_str(text)).is_err(), "{text}");
+    }
+    let mut out = Vec::new();
+    assert!(pam_serde::text_map::serialize(&TextMap::from([([0xff], 1)]), &mut ToJson::new(&mut out)).is_err());
+}
+
+#[test]
+fn keys_of_bytes_are_bytes_elsewhere() {
+    let entries = [(Packed(&[0xff]), 1u64), (Packed(b"a"), 2), (Packed(&[0xff]), 3)];
+    let read = pam_serde::text_map::deserialize(MapDeserializer::new(entries.into_iter())).unwrap();
+    assert_eq!(read, TextMap::from([(vec![0xff], 3), (b"a".to_vec(), 2)]));
 }
 
 #[test]
