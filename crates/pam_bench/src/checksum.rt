@@ -9,35 +9,39 @@ pub struct Checksum {
     sum: u64,
 }
 
+fn mixed(sum: u64, number: u64) -> u64 {
+    sum.rotate_left(5)
+        .wrapping_mul(6364136223846793005)
+        .wrapping_add(number)
+}
+
 impl Checksum {
     pub fn new() -> Checksum {
         Checksum { sum: 0 }
     }
 
     pub fn add(&mut self, number: u64) {
-        self.sum = self
-            .sum
-            .rotate_left(5)
-            .wrapping_mul(6364136223846793005)
-            .wrapping_add(number);
+        self.sum = mixed(self.sum, number);
     }
 
     /// Adds the keys and values of entries.
     pub fn add_entries(&mut self, entries: Iter<'_, SumMax<u64>>) -> Result<(), NoMemory> {
+        let mut sum = self.sum; // a field would be stored at each entry
         for entry in entries {
             let (key, val) = entry?;
-            self.add(key);
-            self.add(val);
+            sum = mixed(mixed(sum, key), val);
         }
+        self.sum = sum;
         Ok(())
     }
 
     /// Adds the keys and values of entries that are lent.
     pub fn add_lent(&mut self, entries: IterRef<'_, SumMax<u64>>) {
+        let mut sum = self.sum; // a field would be stored at each entry
         for (key, val) in entries {
-            self.add(*key);
-            self.add(*val);
+            sum = mixed(mixed(sum, *key), *val);
         }
+        self.sum = sum;
     }
 
     pub fn sum(&self) -> u64 {
