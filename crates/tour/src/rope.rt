@@ -80,19 +80,23 @@ fn end_counted<C: Ledger>(alloc: Global, rope: &Rope, line: u64, blank: Blank) -
     rope.first_where(alloc, &Lines { least: line }, &mut steps)
 }
 
-// The place of the line feed that ends a line, and the size where there is none.
-fn line_end(alloc: Global, rope: &Rope, line: u64) -> u64 {
-    match end_counted::<Brand>(alloc, rope, line, Blank::new(1)) {
-        Some(place) => place,
+// The place where a line begins, of which the first has the number 1; the size where there are fewer lines.
+fn line_start(alloc: Global, rope: &Rope, line: u64) -> u64 {
+    let before = line.saturating_sub(1);
+    if before == 0 {
+        return 0;
+    }
+    match end_counted::<Brand>(alloc, rope, before, Blank::new(1)) {
+        Some(place) => place.saturating_add(1),
         None => rope.size(),
     }
 }
 
-/// A line put into a text, a word taken out of it, and the line and column of a place.
+/// A line put into a text, and the line and column of a place.
 pub(crate) fn page(alloc: Global) -> Result<String> {
     let poem: Rope = SeqOver::from_items(alloc, b"roses are red\nviolets are blue\n")?;
     let undo = poem.share(alloc)?; // costs no more than a pointer
-    let at = line_end(alloc, &poem, 1).saturating_add(1);
+    let at = line_start(alloc, &poem, 2);
     let more: Rope = SeqOver::from_items(alloc, b"sugar is sweet\n")?;
     let poem = poem
         .take(alloc, at)?
@@ -100,15 +104,16 @@ pub(crate) fn page(alloc: Global) -> Result<String> {
         .append(alloc, &poem.skip(alloc, at)?)?;
     let place = 16;
     let front = poem.take(alloc, place)?;
-    let line = front.sum(alloc);
+    let line = front.sum(alloc).saturating_add(1);
+    let column = place
+        .saturating_sub(line_start(alloc, &poem, line))
+        .saturating_add(1);
     let text = format!(in alloc;
-        "bytes {}, lines {}; before {} and {}\nplace {place} is in line {} at column {}\n",
+        "bytes {}, lines {}; before {} and {}\nplace {place} is in line {line} at column {column}\n",
         poem.size(),
         poem.sum(alloc),
         undo.size(),
-        undo.sum(alloc),
-        line.saturating_add(1),
-        place.saturating_sub(line_end(alloc, &poem, line))
+        undo.sum(alloc)
     )?;
     Ok(text)
 }
