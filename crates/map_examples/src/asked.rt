@@ -3,6 +3,7 @@ ghost use Rattle.std.specs.Prelude.{max, nat_le};
 ghost use Rattle.map_examples.specs.Asked.{largest_monoid, passes_either};
 
 use aug_monoid::{AugTest, NoMemory, Reduce, SumMax, Test, Totals};
+use ord_map::MapValue;
 use std::alloc::Global;
 
 /// The values that are at least a number.
@@ -26,6 +27,17 @@ impl AugTest<SumMax<u64>> for AtLeast {
 
     fn passes(&self, aug: &Totals) -> bool {
         self.least <= aug.greatest
+    }
+}
+
+/// Whether a value is at least the number.
+impl MapValue<u64, u64> for AtLeast {
+    type Out = bool;
+
+    ghost made_of = { λ s _ val. nat_le s.least val };
+
+    fn make(&self, _alloc: Global, _key: &u64, val: &u64) -> Result<bool, NoMemory> {
+        Ok(self.least <= *val)
     }
 }
 

@@ -1,4 +1,6 @@
 mod Between
+mod CommonKeys
 mod Nearby
 mod Popped
+mod SameKeys
 mod Turns
