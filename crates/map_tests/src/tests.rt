@@ -1,9 +1,11 @@
 //! The map type at concrete types.
 mod alike;
 mod changes;
+mod common;
 mod counted;
 mod counting;
 mod cursors;
+mod forked;
 mod keyed;
 mod many;
 mod nested;
@@ -15,5 +17,6 @@ mod refusing;
 mod spans;
 mod sums;
 mod updated;
+mod valued;
 mod versions;
 mod wholes;
