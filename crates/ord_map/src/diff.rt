@@ -8,8 +8,9 @@ use entry_lists::{Change, changes_of};
 use std::alloc::Global;
 
 impl<A: Augment<Val: PartialEq>> OrdMap<A> {
-    /// What has changed from this map to a newer one, in the order of the keys: the keys that came, that went, and that have another
-    /// value. It lists both maps, so it takes O(m + n) time and memory for maps of m and n entries, however few have changed.
+    /// What has changed from this map to a newer one, in the order of the keys: the keys that came, that went, and that have
+    /// another value. A `Change` has no `Debug`. The call lists both maps, so it takes O(m + n) time and memory for maps of m and
+    /// n entries, however few have changed.
     ///
     ///     let map = Sums::from_pairs(alloc, &[(1, 10)])?;
     ///     let newer = Sums::from_pairs(alloc, &[(1, 11), (2, 20)])?;

@@ -8,8 +8,8 @@ use aug_monoid::{AugTest, Augment, NoMemory, Reduce};
 use std::alloc::Global;
 
 impl<A: Augment> OrdMap<A> {
-    /// The map of the entries whose base values pass. It passes over each part whose fold fails the test, so for k entries that
-    /// pass it takes O(k log(n / k + 1)).
+    /// The map of the entries whose base values pass. An entry is tested by itself; a running sum can't be asked for so. It passes
+    /// over each part whose fold fails the test, so for k entries that pass it takes O(k log(n / k + 1)).
     ///
     ///     let map = Sums::from_pairs(alloc, &[(1, 10), (2, 20), (3, 30)])?;
     ///     map.filter_fold(alloc, &AtLeast { least: 20 })?     // [(2, 20), (3, 30)]
@@ -20,8 +20,8 @@ impl<A: Augment> OrdMap<A> {
         Ok(OrdMap { map })
     }
 
-    /// The first entry whose base value passes; none exactly where no entry's does. It passes over each part whose fold fails the
-    /// test, and takes O(log n).
+    /// The first entry whose base value passes; none exactly where no entry's does. An entry is tested by itself; a running sum
+    /// can't be asked for so. It passes over each part whose fold fails the test, and takes O(log n).
     ///
     ///     let map = Sums::from_pairs(alloc, &[(1, 10), (2, 20), (3, 30)])?;
     ///     map.first_where(alloc, &AtLeast { least: 20 })?     // Some((2, 20))
