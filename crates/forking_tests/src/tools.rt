@@ -12,9 +12,26 @@ use std::thread::Threads;
 
 /// A gate that counts the halves that enter it, and the halves of halves.
 #[derive(Drop)]
-struct Forks {
+pub(crate) struct Forks {
     halves: AtomicU64,
     quarters: AtomicU64,
+}
+
+impl Forks {
+    pub(crate) fn new() -> Forks {
+        Forks {
+            halves: AtomicU64::new(0),
+            quarters: AtomicU64::new(0),
+        }
+    }
+
+    /// Whether anything has forked, and whether a half has.
+    pub(crate) fn seen(&self) -> (bool, bool) {
+        (
+            self.halves.load(Ordering::SeqCst) > 0,
+            self.quarters.load(Ordering::SeqCst) > 0,
+        )
+    }
 }
 
 impl Gate for Forks {
@@ -41,15 +58,9 @@ fn forked<R: Threads + Wait + Abort + Sync>(
         workers,
         grain,
     };
-    let gate = Forks {
-        halves: AtomicU64::new(0),
-        quarters: AtomicU64::new(0),
-    };
+    let gate = Forks::new();
     written(rt, alloc, asked, input, &gate);
-    (
-        gate.halves.load(Ordering::SeqCst) > 0,
-        gate.quarters.load(Ordering::SeqCst) > 0,
-    )
+    gate.seen()
 }
 
 /// Workers and a grain, and whether anything forks with them, and whether a half does.
