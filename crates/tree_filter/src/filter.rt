@@ -1,5 +1,5 @@
 //! Filters by the augmented values.
-ghost use Rattle.std.specs.Prelude.{◌≡◌, ◌+◌, ◌*◌, ◌≤◌, [], ◌∷◌, ◌++◌, length, true, if◌then◌else◌, IfOk};
+ghost use Rattle.std.specs.Prelude.{◌≡◌, ◌+◌, ◌*◌, ◌≤◌, [], ◌∷◌, ◌++◌, length, true, IfOk};
 ghost use Rattle.map_model.specs.Entries.{AllAbove, AllBelow, IsIncreasing};
 ghost use Rattle.map_model.specs.Fold.{aug_filter};
 ghost use Rattle.aug_monoid.specs.Fresh.{IsFresh};
@@ -116,28 +116,21 @@ fn filter_leaf<M: Shape, T: AugTest<M::Augment>, C: Ledger, D: Ledger>(
     Tree::from_owned(alloc, kept, steps)
 }
 
-/// What passed of a tree's two sides, with its entry between them where it passes: the tree itself where nothing is left out.
-fn filter_node<M: Shape, T: AugTest<M::Augment>, C: Ledger, D: Ledger>(
+/// What is kept of a tree's two sides, with its entry between them: the tree itself where nothing is left out.
+fn join_kept<M: Shape, C: Ledger>(
     alloc: Global,
     tree: &Tree<M>,
     front: &Tree<M>,
     key: &M::Key,
     val: &M::Val,
     back: &Tree<M>,
-    test: &T,
-    tests: &mut Steps<C>,
-    steps: &mut Steps<D>,
+    steps: &mut Steps<C>,
 ) -> Result<Tree<M>, NoMemory>
     requires below { AllBelow M.Key.cmp front.now.entries key.now }
     requires above { AllAbove M.Key.cmp back.now.entries key.now }
     requires whole { length front.now.entries + length back.now.entries + 1 ≡ length tree.now.entries → tree.now.entries ≡ front.now.entries ++ (key.now, val.now) ∷ back.now.entries }
-    ensures kept { IfOk result (λ kept. kept.entries ≡ front.now.entries ++ (if T.admits test.now (M.Augment.base_of key.now val.now) then (key.now, val.now) ∷ back.now.entries else back.now.entries)) }
-    ensures cost { tests.new ≤ tests.old + 1 }
+    ensures { IfOk result (λ kept. kept.entries ≡ front.now.entries ++ (key.now, val.now) ∷ back.now.entries) }
 {
-    let passes = entry_passes::<M::Augment, T, C>(alloc, key, val, test, tests)?;
-    if !passes {
-        return join2(alloc, front, back, steps);
-    }
     if front.size() + back.size() + 1 == tree.size() {
         return tree.share(alloc);
     }
@@ -170,7 +163,11 @@ fn filter_part<M: Shape, T: AugTest<M::Augment>, C: Ledger, D: Ledger>(
         } => {
             let front = filter_part(alloc, Part { tree: left }, test, tests, steps)?;
             let back = filter_part(alloc, Part { tree: right }, test, tests, steps)?;
-            filter_node(alloc, tree, &front, key, val, &back, test, tests, steps)
+            let passes = entry_passes::<M::Augment, T, C>(alloc, key, val, test, tests)?;
+            if !passes {
+                return join2(alloc, &front, &back, steps);
+            }
+            join_kept(alloc, tree, &front, key, val, &back, steps)
         }
     }
 }

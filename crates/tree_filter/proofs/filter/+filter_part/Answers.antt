@@ -1,7 +1,7 @@
-use Rattle.std.proofs.Common.{◌≡◌, ◌+◌, ◌≤◌, sym, ap, ◌∙◌, ◌<◌, length, rules, ◌∷◌, ◌++◌, cond, refl, ap₂, arith}
+use Rattle.std.proofs.Common.{◌≡◌, ◌+◌, ◌≤◌, false, sym, ap, ◌∙◌, ◌<◌, length, rules, ◌∷◌, ◌++◌, cond, refl, ap₂, arith}
 use Rattle.std.specs.declared.cmp.Ordering.TheVariants.{Less}
 use Rattle.map_model.proofs.Cuts.{length-around}
-use Rattle.map_model.proofs.Keys.{AllKeys-filter, around}
+use Rattle.map_model.proofs.Keys.{AllKeys-filter, IsBefore-around, around}
 use Rattle.std.specs.List.{filter}
 use Rattle.std.proofs.lemmas.List.Elements.{filter-append}
 use Rattle.std.proofs.lemmas.Result.{IfOk-weaker}
@@ -12,24 +12,36 @@ use Rattle.tree_filter.proofs.filter.+filter_part.Goals as goal
 pub returns-then-fails_whole-clause-kept : goal.returns-then-fails_whole-clause-kept
 returns-then-fails_whole-clause-kept g t c = ap (λ x. x.entries) c.empty.ensures ∙ sym (c.fails_whole.ensures.none c.if-fails_whole.true)
 
-pub filter_node-requires-clause-below : goal.filter_node-requires-clause-below
-filter_node-requires-clause-below g t c =
+pub join_kept-requires-clause-below : goal.join_kept-requires-clause-below
+join_kept-requires-clause-below g t c =
     let cmp = g.M.Key.Ord.cmp in
     let p = λ (e : g.row.M-Key.Denot × g.row.M-Val.Denot). g.T.AugTest.admits c.args.test.now (g.M.Augment.Augment.base_of e.0 e.1) in
     let left = c.in-Node.left.now.entries in
     let sides = around cmp left c.in-Node.key.now c.in-Node.val.now c.in-Node.right.now.entries c.in-Node.ensures.top.increasing in
     rw c.in_ok-front-in-Node.ensures.kept (AllKeys-filter (λ k. cmp k c.in-Node.key.now ≡ Less) p left sides.lower)
 
-pub filter_node-requires-clause-above : goal.filter_node-requires-clause-above
-filter_node-requires-clause-above g t c =
+pub join_kept-requires-clause-above : goal.join_kept-requires-clause-above
+join_kept-requires-clause-above g t c =
     let cmp = g.M.Key.Ord.cmp in
     let p = λ (e : g.row.M-Key.Denot × g.row.M-Val.Denot). g.T.AugTest.admits c.args.test.now (g.M.Augment.Augment.base_of e.0 e.1) in
     let right = c.in-Node.right.now.entries in
     let sides = around cmp c.in-Node.left.now.entries c.in-Node.key.now c.in-Node.val.now right c.in-Node.ensures.top.increasing in
     rw c.in_ok-back-in-Node.ensures.kept (AllKeys-filter (λ k. cmp c.in-Node.key.now k ≡ Less) p right sides.upper)
 
-pub filter_node-requires-clause-whole : goal.filter_node-requires-clause-whole
-filter_node-requires-clause-whole g t c =
+pub join2-requires : goal.join2-requires
+join2-requires g t c =
+    let cmp = g.M.Key.Ord.cmp in
+    let p = λ (e : g.row.M-Key.Denot × g.row.M-Val.Denot). g.T.AugTest.admits c.args.test.now (g.M.Augment.Augment.base_of e.0 e.1) in
+    let left = c.in-Node.left.now.entries in
+    let right = c.in-Node.right.now.entries in
+    let key = c.in-Node.key.now in
+    let sides = around cmp left key c.in-Node.val.now right c.in-Node.ensures.top.increasing in
+    record {
+      before = rw (c.in_ok-front-in-Node.ensures.kept, c.in_ok-back-in-Node.ensures.kept) (IsBefore-around g.met.M.Key.Ord.total (filter p left) key (filter p right) (AllKeys-filter (λ k. cmp k key ≡ Less) p left sides.lower) (AllKeys-filter (λ k. cmp key k ≡ Less) p right sides.upper));
+    }
+
+pub join_kept-requires-clause-whole : goal.join_kept-requires-clause-whole
+join_kept-requires-clause-whole g t c =
     let p = λ (e : g.row.M-Key.Denot × g.row.M-Val.Denot). g.T.AugTest.admits c.args.test.now (g.M.Augment.Augment.base_of e.0 e.1) in
     let e : g.row.M-Key.Denot × g.row.M-Val.Denot = (c.in-Node.key.now, c.in-Node.val.now) in
     rw (c.in_ok-front-in-Node.ensures.kept, c.in_ok-back-in-Node.ensures.kept) (filter_sides p c.args.part.tree.now.entries c.in-Node.left.now.entries e c.in-Node.right.now.entries c.in-Node.ensures.top.entries_are)
@@ -55,15 +67,6 @@ returns-in-Empty-clause-kept g t c =
 pub returns-in-Block-clause-kept : goal.returns-in-Block-clause-kept
 returns-in-Block-clause-kept g t c = rw c.in-Block.ensures.top.entries_are c.filter_leaf.ensures.kept
 
-pub returns-in_ok-back-in-Node-clause-kept : goal.returns-in_ok-back-in-Node-clause-kept
-returns-in_ok-back-in-Node-clause-kept g t c =
-    let p = λ (e : g.row.M-Key.Denot × g.row.M-Val.Denot). g.T.AugTest.admits c.args.test.now (g.M.Augment.Augment.base_of e.0 e.1) in
-    let left = c.in-Node.left.now.entries in
-    let right = c.in-Node.right.now.entries in
-    let e : g.row.M-Key.Denot × g.row.M-Val.Denot = (c.in-Node.key.now, c.in-Node.val.now) in
-    let whole = ap (filter p) c.in-Node.ensures.top.entries_are ∙ filter-append p left (e ∷ right) in
-    IfOk-weaker c.filter_node.result _ _ (λ x h. h ∙ ap₂ (λ l r. l ++ cond (p e) (e ∷ r) r) c.in_ok-front-in-Node.ensures.kept c.in_ok-back-in-Node.ensures.kept ∙ sym whole) c.filter_node.ensures.kept
-
 pub returns-in_err-back-in-Node-clause-cost : goal.returns-in_err-back-in-Node-clause-cost
 returns-in_err-back-in-Node-clause-cost g t c =
     let last : c.filter_part-in-Node.new.tests ≤ c.filter_part-in-Node.new.tests + 1 = omega arith in
@@ -77,8 +80,18 @@ returns-in_err-back-in-Node-clause-cost g t c =
     tests_around p tree.entries left.entries e right.entries node.entries_are g.M.Shape.BLOCK left.height right.height tree.height _ _ _ _ _ (omega (arith, node.height_is)) (omega (arith, node.height_is)) some
     c.fails_whole.ensures.cost c.in_ok-front-in-Node.ensures.cost c.in_err-back-in-Node.ensures.cost last
 
-pub returns-in_ok-back-in-Node-clause-cost : goal.returns-in_ok-back-in-Node-clause-cost
-returns-in_ok-back-in-Node-clause-cost g t c =
+pub returns-then-not-passes-clause-kept : goal.returns-then-not-passes-clause-kept
+returns-then-not-passes-clause-kept g t c =
+    let p = λ (e : g.row.M-Key.Denot × g.row.M-Val.Denot). g.T.AugTest.admits c.args.test.now (g.M.Augment.Augment.base_of e.0 e.1) in
+    let left = c.in-Node.left.now.entries in
+    let right = c.in-Node.right.now.entries in
+    let e : g.row.M-Key.Denot × g.row.M-Val.Denot = (c.in-Node.key.now, c.in-Node.val.now) in
+    let fails : p e ≡ false = sym c.in_ok-passes-in-Node.ensures.value ∙ c.if-not-passes.true in
+    let whole = ap (filter p) c.in-Node.ensures.top.entries_are ∙ filter-append p left (e ∷ right) ∙ ap (λ b. filter p left ++ cond b (e ∷ filter p right) (filter p right)) fails in
+    IfOk-weaker c.join2.result _ _ (λ x h. h ∙ ap₂ (λ l r. l ++ r) c.in_ok-front-in-Node.ensures.kept c.in_ok-back-in-Node.ensures.kept ∙ sym whole) c.join2.ensures.entries
+
+pub returns-in_err-passes-in-Node-clause-cost : goal.returns-in_err-passes-in-Node-clause-cost
+returns-in_err-passes-in-Node-clause-cost g t c =
     let p = λ (e : g.row.M-Key.Denot × g.row.M-Val.Denot). g.T.AugTest.admits c.args.test.now (g.M.Augment.Augment.base_of e.0 e.1) in
     let node = c.in-Node.ensures.top in
     let tree = c.args.part.tree.now in
@@ -87,4 +100,28 @@ returns-in_ok-back-in-Node-clause-cost g t c =
     let e : g.row.M-Key.Denot × g.row.M-Val.Denot = (c.in-Node.key.now, c.in-Node.val.now) in
     let some = c.fails_whole.ensures.some c.if-fails_whole.false in
     tests_around p tree.entries left.entries e right.entries node.entries_are g.M.Shape.BLOCK left.height right.height tree.height _ _ _ _ _ (omega (arith, node.height_is)) (omega (arith, node.height_is)) some
-    c.fails_whole.ensures.cost c.in_ok-front-in-Node.ensures.cost c.in_ok-back-in-Node.ensures.cost c.filter_node.ensures.cost
+    c.fails_whole.ensures.cost c.in_ok-front-in-Node.ensures.cost c.in_ok-back-in-Node.ensures.cost c.in_err-passes-in-Node.ensures.cost
+
+pub returns-then-not-passes-clause-cost : goal.returns-then-not-passes-clause-cost
+returns-then-not-passes-clause-cost g t c =
+    let p = λ (e : g.row.M-Key.Denot × g.row.M-Val.Denot). g.T.AugTest.admits c.args.test.now (g.M.Augment.Augment.base_of e.0 e.1) in
+    let node = c.in-Node.ensures.top in
+    let tree = c.args.part.tree.now in
+    let left = c.in-Node.left.now in
+    let right = c.in-Node.right.now in
+    let e : g.row.M-Key.Denot × g.row.M-Val.Denot = (c.in-Node.key.now, c.in-Node.val.now) in
+    let some = c.fails_whole.ensures.some c.if-fails_whole.false in
+    tests_around p tree.entries left.entries e right.entries node.entries_are g.M.Shape.BLOCK left.height right.height tree.height _ _ _ _ _ (omega (arith, node.height_is)) (omega (arith, node.height_is)) some
+    c.fails_whole.ensures.cost c.in_ok-front-in-Node.ensures.cost c.in_ok-back-in-Node.ensures.cost c.in_ok-passes-in-Node.ensures.cost
+
+pub returns-else-not-passes-clause-cost : goal.returns-else-not-passes-clause-cost
+returns-else-not-passes-clause-cost g t c =
+    let p = λ (e : g.row.M-Key.Denot × g.row.M-Val.Denot). g.T.AugTest.admits c.args.test.now (g.M.Augment.Augment.base_of e.0 e.1) in
+    let node = c.in-Node.ensures.top in
+    let tree = c.args.part.tree.now in
+    let left = c.in-Node.left.now in
+    let right = c.in-Node.right.now in
+    let e : g.row.M-Key.Denot × g.row.M-Val.Denot = (c.in-Node.key.now, c.in-Node.val.now) in
+    let some = c.fails_whole.ensures.some c.if-fails_whole.false in
+    tests_around p tree.entries left.entries e right.entries node.entries_are g.M.Shape.BLOCK left.height right.height tree.height _ _ _ _ _ (omega (arith, node.height_is)) (omega (arith, node.height_is)) some
+    c.fails_whole.ensures.cost c.in_ok-front-in-Node.ensures.cost c.in_ok-back-in-Node.ensures.cost c.in_ok-passes-in-Node.ensures.cost
