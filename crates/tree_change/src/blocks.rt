@@ -7,7 +7,6 @@ ghost use Rattle.tree_change.specs.Growths.{IsLarger};
 ghost use Rattle.tree_change.specs.Refreshed.{TakesIn};
 
 use crate::nodes::Growth;
-use crate::replaced::{Replaced, share_at_place};
 use crate::shape_mut::ShapeMut;
 use aug_monoid::{Augment, Key, Leaf, LeafMut, NoMemory, Seek, Share, Steps};
 use std::alloc::Global;
@@ -64,8 +63,8 @@ fn fold_after_put<A: Augment, L: Leaf<A::Key, A::Val>, C: Ledger>(
     fold
 }
 
-/// Sets a key of a block to a value at its place, hands out a share of the old one where it is wanted, makes the fold of what it was
-/// and the entry's base value, or anew, and answers what that did to the map.
+/// Sets a key of a block to a value at its place, makes the fold of what it was and the entry's base value, or anew, and answers what
+/// that did to the map.
 pub(crate) fn put_in_own_block<M: ShapeMut, C: Ledger>(
     alloc: Global,
     block: &mut Block<M>,
@@ -73,11 +72,9 @@ pub(crate) fn put_in_own_block<M: ShapeMut, C: Ledger>(
     key: M::Key,
     val: M::Val,
     base: &M::Aug,
-    replaced: &mut Replaced<M::Val>,
     steps: &mut Steps<C>,
 ) -> Result<Growth, NoMemory>
     requires total { M.Augment.never_refuses }
-    requires unset { replaced.old.val ≡ None }
     requires base { base.now ≡ M.Augment.base_of key val }
     requires folded { block.old.fold ≡ fold_of M.Augment.base_of M.Augment.unit_of M.Augment.combined (M.Leaf.entries block.old.leaf) }
     requires increasing { IsIncreasing M.Key.cmp (M.Leaf.entries block.old.leaf) }
@@ -85,14 +82,12 @@ pub(crate) fn put_in_own_block<M: ShapeMut, C: Ledger>(
     requires at { place.at ≡ length (below M.Key.cmp (M.Leaf.entries block.old.leaf) key) }
     requires hit { IsTrue place.hit ↔ IsSome (lookup M.Key.cmp (M.Leaf.entries block.old.leaf) key) }
     ensures entries { IfOk result (λ _. M.Leaf.entries block.new.leaf ≡ set M.Key.cmp (M.Leaf.entries block.old.leaf) key val) }
-    ensures replaced { IfOk result (λ _. IsTrue replaced.old.is_wanted → replaced.new.val ≡ lookup M.Key.cmp (M.Leaf.entries block.old.leaf) key) }
     ensures larger { IfOk result (λ growth. IsLarger growth → length (M.Leaf.entries block.old.leaf) < length (M.Leaf.entries block.new.leaf)) }
     ensures fold { IfOk result (λ _. block.new.fold ≡ fold_of M.Augment.base_of M.Augment.unit_of M.Augment.combined (M.Leaf.entries block.new.leaf)) }
     ensures kept { OnErr result (M.Leaf.entries block.new.leaf ≡ M.Leaf.entries block.old.leaf) }
     ensures kept_fold { OnErr result (block.new.fold ≡ block.old.fold) }
     ensures cost { steps.new ≤ steps.old + (length (M.Leaf.entries block.old.leaf) + 1) }
 {
-    share_at_place(alloc, &block.leaf, place, replaced)?;
     put_at_place(alloc, &mut block.leaf, place, key, val)?;
     block.fold = fold_after_put::<M::Augment, M::Leaf, C>(
         alloc,

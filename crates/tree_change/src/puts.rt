@@ -6,7 +6,7 @@ ghost use Rattle.tree_change.specs.Looks.{look_cost};
 
 use crate::blocks::put_in_own_block;
 use crate::nodes::{Growth, PartMut, Way, put_here, refresh_after_put, way_of_put};
-use crate::replaced::{Replaced, share_in_tree};
+use crate::replaced::{Replaced, share_at_place, share_in_tree};
 use crate::shape_mut::ShapeMut;
 use aug_monoid::{Augment, Leaf, NoMemory, Steps};
 use std::alloc::Global;
@@ -169,7 +169,8 @@ fn put_at_end<M: ShapeMut, C: Ledger>(
         if let Some(block) = Arc::get_mut(owner) {
             let place = block.leaf.seek(&key, steps);
             if place.hit || block.leaf.len() < 2 * M::BLOCK as u64 {
-                return put_in_own_block(alloc, block, place, key, val, base, replaced, steps);
+                share_at_place(alloc, &block.leaf, place, replaced)?;
+                return put_in_own_block(alloc, block, place, key, val, base, steps);
             }
             *tree = put_sought(alloc, &block.leaf, place, key, val, steps)?;
             return Ok(Growth::Level);

@@ -1,7 +1,6 @@
 use Rattle.std.proofs.Common.{◌∙◌, sym, arith}
 use Rattle.std.proofs.lemmas.Bool.{false_from_ne_true, false≢true, not-true}
 use Rattle.map_model.proofs.Cuts.{none_of_absent, set_sizes}
-use Rattle.tree_change.proofs.HandedOut.{handed_out}
 use Rattle.tree_change.proofs.Taking.{fold_set, longer_if_new, set_some}
 use Rattle.tree_change.proofs.blocks.put_in_own_block.Goals as goal
 
@@ -30,9 +29,3 @@ returns-clause-larger g c = λ is_new.
     let missed = not-true c.args.place.hit (c.in_block.ensures is_new) in
     let absent = none_of_absent _ (false_from_ne_true _ (λ h. false≢true (sym missed ∙ c.requires.hit.1 h))) in
     rw c.in_ok-put_at_place.ensures.entries (longer_if_new g.met.M.Key.Ord.total g.met.M.Key.Key.exact entries c.args.key c.args.val c.requires.increasing absent)
-
-pub returns-clause-replaced : goal.returns-clause-replaced
-returns-clause-replaced g c = λ wanted.
-    let entries = g.M.Leaf.Leaf.entries c.args.block.now.leaf in
-    handed_out g.met.M.Key.Ord.total g.met.M.Key.Key.exact entries c.args.key c.args.place.at c.args.place.hit c.args.replaced.now.val c.share_at_place.new.replaced.val c.requires.increasing c.requires.at c.requires.hit
-    (c.in_ok-share_at_place.ensures.hit wanted) c.in_ok-share_at_place.ensures.missed c.requires.unset

@@ -1,6 +1,7 @@
 use Rattle.std.proofs.Common.{rules, ◌≡◌, ◌+◌, ◌*◌, ◌<◌, ◌≤◌, length, sym, ap, ◌∙◌, subst, arith}
 use Rattle.std.proofs.lemmas.Bool.{false_from_ne_true, false≢true}
-use Rattle.map_model.specs.Entries.{set}
+use Rattle.std.proofs.lemmas.Result.{IfOk-weaker}
+use Rattle.map_model.specs.Entries.{lookup, set}
 use Rattle.map_model.proofs.Cuts.{none_of_absent, set_sizes}
 use Rattle.map_model.proofs.Lengths.{length-set}
 use Rattle.map_model.proofs.Splits.{IsIncreasing-set}
@@ -8,6 +9,7 @@ use Rattle.tree_shape.specs.Top.{contents}
 use Rattle.tree_change.specs.Looks.{look_cost}
 use Rattle.tree_change.proofs.Changed.{by_outcome, longer_seen}
 use Rattle.tree_change.proofs.Costs.{sought_cost}
+use Rattle.tree_change.proofs.HandedOut.{handed_out}
 use Rattle.tree_change.proofs.Owned.{top_block}
 use Rattle.tree_change.proofs.Taking.{longer_if_new}
 use Rattle.tree_change.proofs.puts.put_at_end.Goals as goal
@@ -22,8 +24,8 @@ returns-clause-cost g c =
     subst (λ h. c.put_copy.new.steps < c.args.steps.now + (64 * (h + 1) * (g.M.Shape.BLOCK + 2) + (g.M.Leaf.Leaf.FIND + look_cost c.args.replaced.now.is_wanted h g.M.Leaf.Leaf.FIND))) same
     (omega (arith, c.put_copy.ensures.cost, c.share_in_tree.ensures.cost))
 
-pub invariant_of-tree : goal.invariant_of-tree
-invariant_of-tree g c =
+pub invariant_of-tree-then-place : goal.invariant_of-tree-then-place
+invariant_of-tree-then-place g c =
     let a = g.M.Augment.Augment in
     let own = top_block g.M.Leaf.Leaf.entries g.M.Key.Ord.cmp a.base_of a.unit_of a.combined g.M.Shape.BLOCK c.args.part.tree.now c.in-Some.block.now c.in-Block.owner c.tree.inside.top c.in-Some.ensures.value c.in-Block.is c.tree.invariant c.tree.view_is in
     let entries = g.M.Leaf.Leaf.entries c.in-Some.block.now.leaf in
@@ -133,12 +135,6 @@ put_in_own_block-requires-clause-folded g c =
     let own = top_block g.M.Leaf.Leaf.entries g.M.Key.Ord.cmp a.base_of a.unit_of a.combined g.M.Shape.BLOCK c.args.part.tree.now c.in-Some.block.now c.in-Block.owner c.tree.inside.top c.in-Some.ensures.value c.in-Block.is c.tree.invariant c.tree.view_is in
     own.shape.fold_is
 
-pub invariant_of-tree-in-Break-1 : goal.invariant_of-tree-in-Break-1
-invariant_of-tree-in-Break-1 g c =
-    let a = g.M.Augment.Augment in
-    let own = top_block g.M.Leaf.Leaf.entries g.M.Key.Ord.cmp a.base_of a.unit_of a.combined g.M.Shape.BLOCK c.args.part.tree.now c.in-Some.block.now c.in-Block.owner c.tree.inside.top c.in-Some.ensures.value c.in-Block.is c.tree.invariant c.tree.view_is in
-    own.shape
-
 pub returns-in-Some-clause-larger : goal.returns-in-Some-clause-larger
 returns-in-Some-clause-larger g c = λ _.
     let a = g.M.Augment.Augment in
@@ -151,11 +147,32 @@ returns-in-Some-clause-larger g c = λ _.
 pub invariant_of-tree-in-Break-branch-2 : goal.invariant_of-tree-in-Break-branch-2
 invariant_of-tree-in-Break-branch-2 g c = search rules
 
-pub put_in_own_block-requires-clause-unset : goal.put_in_own_block-requires-clause-unset
-put_in_own_block-requires-clause-unset g c = c.requires.unset
-
 pub invariant_of-tree-in-Break-branch-3 : goal.invariant_of-tree-in-Break-branch-3
 invariant_of-tree-in-Break-branch-3 g c = search rules
 
+pub invariant_of-tree-in-Break-branch-4 : goal.invariant_of-tree-in-Break-branch-4
+invariant_of-tree-in-Break-branch-4 g c = search rules
+
 pub invariant_of-tree-4 : goal.invariant_of-tree-4
 invariant_of-tree-4 g c = search rules
+
+pub invariant_of-tree : goal.invariant_of-tree
+invariant_of-tree g c =
+    let a = g.M.Augment.Augment in
+    let own = top_block g.M.Leaf.Leaf.entries g.M.Key.Ord.cmp a.base_of a.unit_of a.combined g.M.Shape.BLOCK c.args.part.tree.now c.in-Some.block.now c.in-Block.owner c.tree.inside.top c.in-Some.ensures.value c.in-Block.is c.tree.invariant c.tree.view_is in
+    own.shape
+
+pub returns-then-place-clause-replaced : goal.returns-then-place-clause-replaced
+returns-then-place-clause-replaced g c =
+    let a = g.M.Augment.Augment in
+    let own = top_block g.M.Leaf.Leaf.entries g.M.Key.Ord.cmp a.base_of a.unit_of a.combined g.M.Shape.BLOCK c.args.part.tree.now c.in-Some.block.now c.in-Block.owner c.tree.inside.top c.in-Some.ensures.value c.in-Block.is c.tree.invariant c.tree.view_is in
+    let entries = g.M.Leaf.Leaf.entries c.in-Some.block.now.leaf in
+    IfOk-weaker c.put_in_own_block.result _ _ (λ _ put wanted. handed_out g.met.M.Key.Ord.total g.met.M.Key.Key.exact entries c.args.key c.seek-place.result.at c.seek-place.result.hit c.args.replaced.now.val c.share_at_place.new.replaced.val own.shape.increasing c.seek-place.ensures.at c.seek-place.ensures.hit
+    (c.in_ok-share_at_place.ensures.hit wanted) c.in_ok-share_at_place.ensures.missed c.requires.unset ∙ ap (λ es. lookup g.M.Key.Ord.cmp es c.args.key) own.entries_are) c.put_in_own_block.ensures.entries
+
+pub returns-then-place-clause-cost : goal.returns-then-place-clause-cost
+returns-then-place-clause-cost g c =
+    let a = g.M.Augment.Augment in
+    let own = top_block g.M.Leaf.Leaf.entries g.M.Key.Ord.cmp a.base_of a.unit_of a.combined g.M.Shape.BLOCK c.args.part.tree.now c.in-Some.block.now c.in-Block.owner c.tree.inside.top c.in-Some.ensures.value c.in-Block.is c.tree.invariant c.tree.view_is in
+    let look = c.seek-place.ensures.within (omega (arith, own.shape.short, g.M.Shape.lawful.1)) in
+    sought_cost c.args.part.tree.now.height g.M.Shape.BLOCK (g.M.Leaf.Leaf.FIND + look_cost c.args.replaced.now.is_wanted c.args.part.tree.now.height g.M.Leaf.Leaf.FIND) c.args.steps.now c.seek-place.new.steps c.put_in_own_block.new.steps (omega (arith, look)) (omega (arith, c.put_in_own_block.ensures.cost, own.shape.short, g.M.Shape.lawful.0))
