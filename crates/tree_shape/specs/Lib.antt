@@ -1,4 +1,5 @@
 pub mod Cuts
+pub mod LeafLists
 pub mod Shape
 pub mod Top
 pub mod Look

@@ -1,8 +1,10 @@
 //! A tree of given entries, and the entries of a tree.
-ghost use Rattle.std.specs.Prelude.{◌≡◌, ◌+◌, ◌-◌, ◌*◌, ◌/◌, ◌^◌, ◌<◌, ◌≤◌, ◌++◌, [], ◌∷◌, IfOk, OnErr, length, take};
+ghost use Rattle.std.specs.Prelude.{◌≡◌, ◌+◌, ◌-◌, ◌*◌, ◌/◌, ◌^◌, ◌<◌, ◌≤◌, ◌++◌, [], ◌∷◌, IfOk, OnErr, length, map, take};
+ghost use Rattle.std.specs.Vec.Iter.{into_iter_items};
 ghost use Rattle.map_model.specs.Balance.{FillsNode, IsBalanced, weight};
 ghost use Rattle.map_model.specs.Entries.{IsIncreasing};
 ghost use Rattle.tree_shape.specs.Cuts.{IsCutAround};
+ghost use Rattle.tree_shape.specs.LeafLists.{BeginsWith, leaf_lists};
 
 use crate::look::Look;
 use crate::shape::Shape;
@@ -10,6 +12,7 @@ use crate::tree::Tree;
 use aug_monoid::{Key, Leaf, NoMemory, Share, Steps, share_entry};
 use std::alloc::Global;
 use std::sync::ledger::Ledger;
+use std::vec::IntoIter;
 
 /// Appends an entry.
 fn push_shared<K: Key, V: Share>(
@@ -64,7 +67,8 @@ impl<M: Shape> Tree<M> {
         }
     }
 
-    /// The tree of entries whose keys rise, by halves, in time linear in their number.
+    /// The tree of entries whose keys rise, by halves, in time linear in their number. All its leaves are made first, one after another,
+    /// so that what a walk reads stands in its order in memory.
     pub fn from_increasing<C: Ledger>(
         alloc: Global,
         from: &[(M::Key, M::Val)],
@@ -75,13 +79,53 @@ impl<M: Shape> Tree<M> {
         ensures entries { IfOk result (λ tree. tree.entries ≡ from.now) }
         ensures cost { steps.new ≤ steps.old + 2 * length from.now }
     {
+        let mut leaves = Vec::new(alloc);
+        Self::push_leaves(alloc, from, &mut leaves)?;
+        Self::take_over(alloc, from, &mut leaves.into_iter(), steps)
+    }
+
+    /// Appends the leaves of entries, those of the two halves where there are too many for one.
+    fn push_leaves(
+        alloc: Global,
+        from: &[(M::Key, M::Val)],
+        leaves: &mut Vec<M::Leaf>,
+    ) -> Result<(), NoMemory>
+        requires increasing { IsIncreasing M.Key.cmp from.now }
+        ensures { IfOk result (λ _. map M.Leaf.entries leaves.new.items ≡ map M.Leaf.entries leaves.old.items ++ leaf_lists (2 * M.BLOCK) from.now) }
+    {
         if from.len() <= 2 * M::BLOCK {
             let leaf = <M::Leaf>::from_entries(alloc, from)?;
+            leaves.push(leaf)?;
+            return Ok(());
+        }
+        let (front, _, back) = cut_middle(from);
+        Self::push_leaves(alloc, front, leaves)?;
+        Self::push_leaves(alloc, back, leaves)
+    }
+
+    /// The tree of entries over their leaves, with which `leaves` begins, and which it takes.
+    fn take_over<C: Ledger>(
+        alloc: Global,
+        from: &[(M::Key, M::Val)],
+        leaves: &mut IntoIter<M::Leaf>,
+        steps: &mut Steps<C>,
+    ) -> Result<Tree<M>, NoMemory>
+        requires increasing { IsIncreasing M.Key.cmp from.now }
+        requires fits { length from.now < 2 ^ 60 }
+        requires theirs { BeginsWith (map M.Leaf.entries (into_iter_items leaves.old)) (leaf_lists (2 * M.BLOCK) from.now) }
+        ensures entries { IfOk result (λ tree. tree.entries ≡ from.now) }
+        ensures taken { IfOk result (λ _. map M.Leaf.entries (into_iter_items leaves.old) ≡ leaf_lists (2 * M.BLOCK) from.now ++ map M.Leaf.entries (into_iter_items leaves.new)) }
+        ensures cost { steps.new ≤ steps.old + 2 * length from.now }
+    {
+        if from.len() <= 2 * M::BLOCK {
+            let Some(leaf) = leaves.next() else {
+                unreachable!()
+            };
             return Self::block_or_none(alloc, leaf, steps);
         }
         let (front, middle, back) = cut_middle(from);
-        let left = Self::from_increasing(alloc, front, steps)?;
-        let right = Self::from_increasing(alloc, back, steps)?;
+        let left = Self::take_over(alloc, front, leaves, steps)?;
+        let right = Self::take_over(alloc, back, leaves, steps)?;
         Self::node_around(alloc, left, middle, right, steps)
     }
 
