@@ -12,6 +12,7 @@
 mod into_entries;
 mod into_shape;
 mod merging;
+mod putting;
 mod taking;
 mod uniting;
 

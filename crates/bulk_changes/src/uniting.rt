@@ -8,7 +8,7 @@ ghost use Rattle.bulk_changes.specs.Parts.{IsPutTogether, union_of_part};
 use crate::into_shape::IntoShape;
 use crate::merging::{merge_into, resolved};
 use crate::taking::{Taken, take_apart};
-use aug_monoid::{NoMemory, Resolve, Steps};
+use aug_monoid::{Leaf, NoMemory, Resolve, Steps};
 use entry_lists::cut_slice;
 use fork_join::{Divide, Opened};
 use std::alloc::Global;
@@ -89,6 +89,24 @@ fn open_alone<'b, M: IntoShape, H: Resolve<M::Val>, C: Ledger>(
     open_part(alloc, how, tree, list, &mut steps)
 }
 
+/// The tree of increasing entries that are handed over. What fits in one block, in a vector with little room to spare, becomes that
+/// block as it stands.
+fn tree_of_merged<M: IntoShape, C: Ledger>(
+    alloc: Global,
+    merged: Vec<(M::Key, M::Val)>,
+    steps: &mut Steps<C>,
+) -> Result<Tree<M>, NoMemory>
+    requires { IsIncreasing M.Key.cmp merged.items }
+    ensures { IfOk result (λ tree. tree.entries ≡ merged.items) }
+{
+    let count = merged.len();
+    if count <= 2 * M::BLOCK && merged.capacity() <= count + count / 4 + 1 {
+        let leaf = <M::Leaf>::from_owned(alloc, merged)?;
+        return Tree::from_leaf(alloc, leaf, steps);
+    }
+    tree_of(alloc, merged)
+}
+
 /// A map that stays as it is, one of at most one block, whose entries are merged with the slice, or one whose top is a node,
 /// at whose key the slice is cut.
 fn open_part<'b, M: IntoShape, H: Resolve<M::Val>, C: Ledger>(
@@ -108,7 +126,7 @@ fn open_part<'b, M: IntoShape, H: Resolve<M::Val>, C: Ledger>(
     match take_apart(alloc, tree)? {
         Taken::Entries(entries) => {
             let merged = merge_into(alloc, entries, list, how, steps)?;
-            Ok(Opened::Done(tree_of(alloc, merged)?))
+            Ok(Opened::Done(tree_of_merged(alloc, merged, steps)?))
         }
         Taken::Node {
             left,

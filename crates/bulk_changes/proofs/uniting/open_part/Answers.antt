@@ -6,13 +6,13 @@ use Rattle.map_model.proofs.Unions.{IsIncreasing-union}
 use Rattle.bulk_changes.proofs.Halves.{put_together, smaller}
 use Rattle.bulk_changes.proofs.uniting.open_part.Goals as goal
 
-pub tree_of-requires : goal.tree_of-requires
-tree_of-requires g c =
+pub tree_of_merged-requires : goal.tree_of_merged-requires
+tree_of_merged-requires g c =
     let order = g.M.Key.Ord.cmp in
     let f = g.H.Resolve.resolved c.args.how.now in
     let entries = c.in-Entries.entries.items in
     let rises : IsIncreasing order entries = search rules in
-    record { increasing = subst (IsIncreasing order) (sym c.in_ok-merged-in-Entries.ensures) (IsIncreasing-union g.met.M.Key.Ord.total f entries c.args.list.now rises) }
+    subst (IsIncreasing order) (sym c.in_ok-merged-in-Entries.ensures) (IsIncreasing-union g.met.M.Key.Ord.total f entries c.args.list.now rises)
 
 pub returns-in_ok-val-in-Node : goal.returns-in_ok-val-in-Node
 returns-in_ok-val-in-Node g c =

@@ -4,7 +4,7 @@ use Rattle.std.specs.Option.{option_map, option_map_or}
 use Rattle.std.specs.Vec.Iter.{into_iter_items}
 use Rattle.map_model.specs.SetOperations.{union}
 use Rattle.bulk_changes.proofs.Turns.{merged_on, merged_end}
-use Rattle.bulk_changes.proofs.merging.merge_into.Goals as goal
+use Rattle.bulk_changes.proofs.merging.merge_in_pass.Goals as goal
 
 pub loop-entry-preserved : goal.loop-entry-preserved
 loop-entry-preserved g c =
