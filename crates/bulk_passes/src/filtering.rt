@@ -110,6 +110,27 @@ fn passing_entry<K: Share, V: Share, T: Test<K, V>, C: Ledger>(
     }
 }
 
+/// Appends another owner of an entry, where it is wanted. Where shares never refuse, as those of numbers, one is appended in any case and
+/// taken off again where it isn't wanted, so that no jump hangs on an answer which no processor foresees.
+#[inline(always)]
+fn push_shared_if<K: Share, V: Share>(
+    alloc: Global,
+    key: &K,
+    val: &V,
+    wanted: bool,
+    out: &mut Vec<(K, V)>,
+) -> Result<(), NoMemory>
+    ensures { IfOk result (λ _. out.new.items ≡ out.old.items ++ (if wanted then (key.now, val.now) ∷ [] else [])) }
+{
+    if wanted || K::is_total() && V::is_total() {
+        out.push(share_entry(alloc, key, val)?)?;
+        if !wanted {
+            out.pop();
+        }
+    }
+    Ok(())
+}
+
 /// Appends another owner of an entry, where it holds. A filter calls it for each entry, so it is no call of its own.
 #[inline(always)]
 fn push_passing<K: Share, V: Share, T: Test<K, V>, C: Ledger>(
@@ -123,10 +144,8 @@ fn push_passing<K: Share, V: Share, T: Test<K, V>, C: Ledger>(
     ensures value { IfOk result (λ _. out.new.items ≡ out.old.items ++ filtered (λ e. T.passes test.now e.0 e.1) ((key.now, val.now) ∷ [])) }
     ensures cost { steps.new ≡ steps.old + 1 }
 {
-    if tested::<K, V, T, C>(test, key, val, steps) {
-        out.push(share_entry(alloc, key, val)?)?;
-    }
-    Ok(())
+    let holds = tested::<K, V, T, C>(test, key, val, steps);
+    push_shared_if(alloc, key, val, holds, out)
 }
 
 /// Appends the entries of a leaf that hold, in one walk over it.
