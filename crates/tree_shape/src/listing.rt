@@ -79,6 +79,10 @@ impl<M: Shape> Tree<M> {
         ensures entries { IfOk result (λ tree. tree.entries ≡ from.now) }
         ensures cost { steps.new ≤ steps.old + 2 * length from.now }
     {
+        if from.len() <= 2 * M::BLOCK {
+            let leaf = <M::Leaf>::from_entries(alloc, from)?;
+            return Self::block_or_none(alloc, leaf, steps);
+        }
         let mut leaves = Vec::new(alloc);
         Self::push_leaves(alloc, from, &mut leaves)?;
         Self::take_over(alloc, from, &mut leaves.into_iter(), steps)
@@ -147,7 +151,8 @@ impl<M: Shape> Tree<M> {
         Self::node(alloc, left, key, val, right, steps)
     }
 
-    /// The tree of entries that are handed over, whose keys rise, in time linear in their number. It shares none of them.
+    /// The tree of entries that are handed over, whose keys rise, in time linear in their number. It shares none of them. What fits in
+    /// one block, in a vector with little room to spare, becomes that block as it stands.
     pub fn from_owned<C: Ledger>(
         alloc: Global,
         from: Vec<(M::Key, M::Val)>,
@@ -159,6 +164,10 @@ impl<M: Shape> Tree<M> {
         ensures cost { steps.new ≤ steps.old + 2 * length from.items }
     {
         let count = from.len();
+        if count <= 2 * M::BLOCK && from.capacity() <= count + count / 4 + 1 {
+            let leaf = <M::Leaf>::from_owned(alloc, from)?;
+            return Self::block_or_none(alloc, leaf, steps);
+        }
         let mut rest = from;
         Self::take_last(alloc, &mut rest, count, steps)
     }
