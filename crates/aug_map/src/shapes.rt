@@ -5,7 +5,7 @@ use leaf_blocks::PlainLeaf;
 use std::marker::PhantomData;
 use tree_shape::Shape;
 
-/// The shape of maps in blocks of 32 to 64 entries that are plain vectors.
+/// The shape of maps in blocks of 64 to 128 entries that are plain vectors.
 #[derive(Drop)]
 pub struct Plain<A>(PhantomData<A>);
 
@@ -20,9 +20,9 @@ impl<A: Augment> Shape for Plain<A> {
 
     type Leaf = PlainLeaf<A::Key, A::Val>;
 
-    const BLOCK: usize = 32;
+    const BLOCK: usize = 64;
 
-    ghost BLOCK = { 32 };
+    ghost BLOCK = { 64 };
 
     ghost use Rattle.std.proofs.Common.{arith};
 

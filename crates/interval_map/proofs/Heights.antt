@@ -22,13 +22,13 @@ outgrown c b low (suc k) (suc h) is less =
     rw (pow-suc 3 h, pow-suc 4 h) (let before = outgrown c b low k h (omega (arith, is)) less in omega (arith, before))
 
 -- a map of no more entries is no higher
-no_higher : (count n height h : ℕ) → n ≤ count → HeightLaw 32 h n → IsHighest count height → h ≤ height
+no_higher : (count n height h : ℕ) → n ≤ count → HeightLaw 64 h n → IsHighest count height → h ≤ height
 no_higher count n height h few law highest =
     elim (cases_lt height h) [
-      | inl high ↦ elim (cases_lt n 32) [
+      | inl high ↦ elim (cases_lt n 64) [
         | inl short ↦ absurd (let low = law.one_block (omega (arith, short)) in omega (arith, high, low))
         | inr long ↦ absurd (
-            let less = outgrown (count + 1) 33 (height + 1) (h - (height + 1)) h (omega (arith, high)) highest in
+            let less = outgrown (count + 1) 65 (height + 1) (h - (height + 1)) h (omega (arith, high)) highest in
             let bound = law.bound long in
             let weights : n + 1 ≤ count + 1 = omega (arith, few) in
             let more = mul-le-mul_left (3 ^ h) weights in
@@ -38,9 +38,9 @@ no_higher count n height h few law highest =
     ]
 
 -- the tests of a filter of such a map
-tests_within : (kept low height start tests : ℕ) → low ≤ height → tests ≤ start + (1 + kept * (3 * low + 2 * 32)) → tests ≤ start + (1 + kept * (3 * height + 64))
+tests_within : (kept low height start tests : ℕ) → low ≤ height → tests ≤ start + (1 + kept * (3 * low + 2 * 64)) → tests ≤ start + (1 + kept * (3 * height + 128))
 tests_within kept low height start tests lower few =
-    let more : 3 * low + 64 ≤ 3 * height + 64 = omega (arith, lower) in
+    let more : 3 * low + 128 ≤ 3 * height + 128 = omega (arith, lower) in
     let up = mul-le-mul_left kept more in
     omega (arith, up, few)
 
@@ -52,9 +52,9 @@ keys_count (e ∷ m) = omega (arith, keys_count m)
 -- the tests of the filter that finds what overlaps a range, of the part of a set's map that begins at most at its end
 pub overlap_tests : {V : Type 0} (map part : List (Pair64 × V)) (set : List Pair64) (lo hi low height start tests : ℕ)
     → AllByRecursion IsInterval (keys_of map) → keys_of map ≡ set → part ≡ slice pair64_cmp map (interval 0 0) (interval hi (2 ^ 64 - 1))
-    → HeightLaw 32 low (length part) → IsHighest (length set) height
-    → tests ≤ start + (1 + length (aug_filter (λ key _. Some key.second) (reaches lo) part) * (3 * low + 2 * 32))
-    → tests ≤ start + (1 + length (overlap set lo hi) * (3 * height + 64))
+    → HeightLaw 64 low (length part) → IsHighest (length set) height
+    → tests ≤ start + (1 + length (aug_filter (λ key _. Some key.second) (reaches lo) part) * (3 * low + 2 * 64))
+    → tests ≤ start + (1 + length (overlap set lo hi) * (3 * height + 128))
 overlap_tests {V} map part set lo hi low height start tests ends seen begun law highest few =
     let hits = aug_filter (λ (key : Pair64) (_ : V). Some key.second) (reaches lo) part in
     let kept : length hits ≡ length (overlap set lo hi) =

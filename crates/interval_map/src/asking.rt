@@ -114,7 +114,7 @@ impl Intervals {
         tests: &mut Steps<C>,
     ) -> Result<Vec<Pair64>, NoMemory>
         ensures hits { IfOk result (λ hits. hits.items ≡ stab self.now p) }
-        ensures cost { (height : ℕ) → IsHighest (length self.now) height → tests.new ≤ tests.old + (1 + length (stab self.now p) * (3 * height + 64)) }
+        ensures cost { (height : ℕ) → IsHighest (length self.now) height → tests.new ≤ tests.old + (1 + length (stab self.now p) * (3 * height + 128)) }
     {
         self.overlap_counted(alloc, p, p, tests)
     }
@@ -129,7 +129,7 @@ impl Intervals {
         hits.keys(alloc)
     }
     /// `overlap` with its tests counted: a look at a right end, or at the greatest one of a part of the set, is a step. Where k
-    /// intervals are answered it takes at most `1 + k * (3 * height + 64)`, for each `height` that no set of as many intervals
+    /// intervals are answered it takes at most `1 + k * (3 * height + 128)`, for each `height` that no set of as many intervals
     /// exceeds.
     pub fn overlap_counted<C: Ledger>(
         &self,
@@ -139,7 +139,7 @@ impl Intervals {
         tests: &mut Steps<C>,
     ) -> Result<Vec<Pair64>, NoMemory>
         ensures hits { IfOk result (λ hits. hits.items ≡ overlap self.now lo hi) }
-        ensures cost { (height : ℕ) → IsHighest (length self.now) height → tests.new ≤ tests.old + (1 + length (overlap self.now lo hi) * (3 * height + 64)) }
+        ensures cost { (height : ℕ) → IsHighest (length self.now) height → tests.new ≤ tests.old + (1 + length (overlap self.now lo hi) * (3 * height + 128)) }
     {
         let begun = begun(alloc, &self.map, hi)?;
         let part = begun.into_map();

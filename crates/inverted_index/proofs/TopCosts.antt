@@ -92,24 +92,24 @@ holders_few (d ∷ ds) t =
 -- ---- what removals take
 
 -- a map of no more entries is no higher
-lower : (count most low height : ℕ) → HeightLaw 32 low count → count ≤ most → IsAtMostLevels 32 height (most + 1) → low ≤ height
-lower count most low height law few levels = height_at_most 32 height low count (omega arith) law (levels_of_part 32 height (count + 1) (most + 1) (omega (arith, few)) levels)
+lower : (count most low height : ℕ) → HeightLaw 64 low count → count ≤ most → IsAtMostLevels 64 height (most + 1) → low ≤ height
+lower count most low height law few levels = height_at_most 64 height low count (omega arith) law (levels_of_part 64 height (count + 1) (most + 1) (omega (arith, few)) levels)
 
 -- no more are left behind a removal
 pub fewer : (before after whole : List (ℕ × ℕ)) (doc : ℕ) → after ≡ drop_key nat_cmp before doc → length before ≤ length whole → length after ≤ length whole
 fewer before after whole doc is few = let left = length-filter_le (λ e. is_ne (nat_cmp e.0 doc)) before in rw is (omega (arith, left, few))
 
 -- the steps of one document more: of the search for it and of its removal
-pub one_hit : (place low height count most start before found after : ℕ) → HeightLaw 32 low count → count ≤ most → IsAtMostLevels 32 height (most + 1)
-    → before ≤ start + place * removal_cost height → found ≤ before + (3 * low + 65) → after ≤ found + (64 * (low + 1) * (32 + 2) + 9)
+pub one_hit : (place low height count most start before found after : ℕ) → HeightLaw 64 low count → count ≤ most → IsAtMostLevels 64 height (most + 1)
+    → before ≤ start + place * removal_cost height → found ≤ before + (3 * low + 129) → after ≤ found + (64 * (low + 1) * (64 + 2) + 9)
     → after ≤ start + (place + 1) * removal_cost height
 one_hit place low height count most start before found after law few levels so_far search removal =
     let less = lower count most low height law few levels in
     omega (arith, less, so_far, search, removal)
 
 -- the steps of fewer documents than were asked for, and of a search
-pub a_search : (k place low height count most start before found : ℕ) → place < k → HeightLaw 32 low count → count ≤ most → IsAtMostLevels 32 height (most + 1)
-    → before ≤ start + place * removal_cost height → found ≤ before + (3 * low + 65)
+pub a_search : (k place low height count most start before found : ℕ) → place < k → HeightLaw 64 low count → count ≤ most → IsAtMostLevels 64 height (most + 1)
+    → before ≤ start + place * removal_cost height → found ≤ before + (3 * low + 129)
     → found ≤ start + k * removal_cost height
 a_search k place low height count most start before found not_yet law few levels so_far search =
     let less = lower count most low height law few levels in
@@ -125,17 +125,17 @@ all_hits k place height start done up so_far = let scaled = mul-le-mul_left (rem
 
 module _ (D : List (ℕ × ℕ)) (P : Lists) (ds : List Document) (index : IsIndex D P) (view : documents_of D P ≡ ds) where
   -- the search for a term
-  pub term_cost : (low height start found : ℕ) → HeightLaw 32 low (length P) → IsAtMostLevels 32 height (posting_count ds + 1) → found ≤ start + (low + 9) → found ≤ start + (height + 9)
+  pub term_cost : (low height start found : ℕ) → HeightLaw 64 low (length P) → IsAtMostLevels 64 height (posting_count ds + 1) → found ≤ start + (low + 9) → found ≤ start + (height + 9)
   term_cost low height start found law levels search =
       let few : length P ≤ posting_count ds = rw (← view) (terms_few D P index.terms_rise index.are_postings) in
       let less = lower (length P) (posting_count ds) low height law few levels in
       omega (arith, less, search)
 
   -- the search and the first documents that have it
-  pub first_cost : (k low height start found done : ℕ) (t : List ℕ) (m : List (ℕ × ℕ)) → m ≡ having ds t → HeightLaw 32 low (length P) → IsAtMostLevels 32 height (posting_count ds + 1)
-      → found ≤ start + (low + 9) → (IsAtMostLevels 32 height (weight m) → done ≤ found + k * removal_cost height) → done ≤ start + top_cost k height
+  pub first_cost : (k low height start found done : ℕ) (t : List ℕ) (m : List (ℕ × ℕ)) → m ≡ having ds t → HeightLaw 64 low (length P) → IsAtMostLevels 64 height (posting_count ds + 1)
+      → found ≤ start + (low + 9) → (IsAtMostLevels 64 height (weight m) → done ≤ found + k * removal_cost height) → done ≤ start + top_cost k height
   first_cost k low height start found done t m is law levels search firsts =
       let before = term_cost low height start found law levels search in
       let few : length m ≤ posting_count ds = rw is (holders_few ds t) in
-      let rest = firsts (levels_of_part 32 height (length m + 1) (posting_count ds + 1) (omega (arith, few)) levels) in
+      let rest = firsts (levels_of_part 64 height (length m + 1) (posting_count ds + 1) (omega (arith, few)) levels) in
       omega (arith, before, rest)

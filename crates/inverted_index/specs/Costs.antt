@@ -7,9 +7,9 @@ abbrev pub posting_count : List Document → ℕ
 posting_count [] = 0
 posting_count (d ∷ ds) = length d.1 + posting_count ds
 
--- the most steps of a search for the heaviest document and of its removal: 3 * h + 65 and 64 * (h + 1) * 34 + 9
+-- the most steps of a search for the heaviest document and of its removal: 3 * h + 129 and 64 * (h + 1) * 66 + 9
 abbrev pub removal_cost : ℕ → ℕ
-removal_cost height = 2179 * height + 2250
+removal_cost height = 4227 * height + 4362
 
 -- the most steps of the first k documents of a term: the search for the term, and for each document a search and a removal
 abbrev pub top_cost : ℕ → ℕ → ℕ

@@ -62,7 +62,7 @@ impl Index {
 
     /// Those of the terms that begin with a prefix, of which capital letters become small; all of them where it is empty. None
     /// where the prefix has a byte that is no letter and no digit. O(log t + k) for k of t terms, and O(log t) more for each block
-    /// of at least 32 terms.
+    /// of at least 64 terms.
     #[tactic(auto, using(crate::proofs::Prefixes::from_nothing))]
     pub fn terms_from(&self, alloc: Global, prefix: &[u8]) -> Result<Vec<Term>, NoMemory>
         ensures { IfOk result (λ terms. AreTermsFrom self.now (small prefix.now) terms.items) }

@@ -177,7 +177,7 @@ impl Index {
     }
 
     /// `top` with its steps counted: comparisons of terms and of documents, looks at greatest weights, and their combinations. They are
-    /// at most `k * (2179 * height + 2250) + height + 9`, for each `height` that no map of so many postings in blocks of 32 to 64
+    /// at most `k * (4227 * height + 4362) + height + 9`, for each `height` that no map of so many postings in blocks of 64 to 128
     /// exceeds. The comparisons of a sort, by which many documents of few are found, are not counted.
     pub fn top_counted<C: Ledger>(
         &self,
@@ -188,7 +188,7 @@ impl Index {
     ) -> Result<Vec<Hit>, NoMemory>
         ensures hits { IfOk result (λ hits. hits.items ≡ hits_of (top self.now k term.now)) }
         ensures ranks { IfOk result (λ hits. AreTop (having self.now term.now) k hits.items) }
-        ensures cost { (height : ℕ) → IsAtMostLevels 32 height (posting_count self.now + 1) → steps.new ≤ steps.old + top_cost k height }
+        ensures cost { (height : ℕ) → IsAtMostLevels 64 height (posting_count self.now + 1) → steps.new ≤ steps.old + top_cost k height }
     {
         let _height = self.lists.height(); // for the proof alone: how high so many terms may be
         let list = find_list(alloc, &self.lists, term, steps)?;

@@ -29,7 +29,7 @@ fn first_of<C: Ledger>(
 ) -> Result<Option<u64>, NoMemory>
     requires low { AreLow weights.now.entries }
     ensures first { IfOk result (λ doc. MatchOption doc (AreBelow least weights.now.entries) (IsFirst weights.now.entries least)) }
-    ensures cost { steps.new ≤ steps.old + (3 * weights.now.height + 65) }
+    ensures cost { steps.new ≤ steps.old + (3 * weights.now.height + 129) }
 {
     match weights.first_where_counted(alloc, &WeightsFrom { least }, steps)? {
         Some(entry) => Ok(Some(entry.0)),
@@ -46,7 +46,7 @@ fn heaviest<C: Ledger>(
 ) -> Result<Option<Hit>, NoMemory>
     requires low { AreLow weights.now.entries }
     ensures leads { IfOk result (λ hit. Leads weights.now.entries hit) }
-    ensures cost { steps.new ≤ steps.old + (3 * weights.now.height + 65) }
+    ensures cost { steps.new ≤ steps.old + (3 * weights.now.height + 129) }
 {
     let _size = weights.size(); // for the proof alone: keys rise
     let Some(totals) = weights.aug() else {
@@ -69,7 +69,7 @@ fn top_by_removals<C: Ledger>(
 ) -> Result<Vec<Hit>, NoMemory>
     requires low { AreLow weights.now.entries }
     ensures hits { IfOk result (λ hits. hits.items ≡ hits_of (take k (ranked weights.now.entries))) }
-    ensures cost { (height : ℕ) → IsAtMostLevels 32 height (weight weights.now.entries) → steps.new ≤ steps.old + k * removal_cost height }
+    ensures cost { (height : ℕ) → IsAtMostLevels 64 height (weight weights.now.entries) → steps.new ≤ steps.old + k * removal_cost height }
 {
     let mut hits = Vec::new(alloc);
     let mut rest = weights.share(alloc)?;
@@ -105,7 +105,7 @@ pub(crate) fn top<C: Ledger>(
 ) -> Result<Vec<Hit>, NoMemory>
     requires low { AreLow weights.now.entries }
     ensures hits { IfOk result (λ hits. hits.items ≡ hits_of (take k (ranked weights.now.entries))) }
-    ensures cost { (height : ℕ) → IsAtMostLevels 32 height (weight weights.now.entries) → steps.new ≤ steps.old + k * removal_cost height }
+    ensures cost { (height : ℕ) → IsAtMostLevels 64 height (weight weights.now.entries) → steps.new ≤ steps.old + k * removal_cost height }
 {
     if weights.size() / SORTED_A_REMOVAL <= k {
         top_by_sorting(alloc, weights, k)

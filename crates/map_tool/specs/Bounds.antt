@@ -12,13 +12,13 @@ height_of kept i = (slice_index_or kept i (record { entries = []; height = 0 }))
 
 -- the steps of a change of one entry in a map of a height, of a look-up in it, and of a fold over a range of it
 abbrev pub change_steps : ℕ → ℕ
-change_steps height = 64 * (height + 1) * (32 + 2) + 9
+change_steps height = 64 * (height + 1) * (64 + 2) + 9
 
 abbrev pub get_steps : ℕ → ℕ
 get_steps height = height + 9
 
 abbrev pub fold_steps : ℕ → ℕ
-fold_steps height = 8 * height + 16 * 32
+fold_steps height = 8 * height + 16 * 64
 
 -- the most steps of a command
 abbrev pub most_steps : List (Contents ℕ ℕ) → MapCommand → Option ℕ

@@ -1,6 +1,6 @@
 //! Ordered maps whose calls are named after those of the standard library's maps and sets.
 //!
-//! An `OrdMap` is a map of `aug_map` in plain blocks of 32 to 64 entries. Contracts see it as its entries in the order of their
+//! An `OrdMap` is a map of `aug_map` in plain blocks of 64 to 128 entries. Contracts see it as its entries in the order of their
 //! keys. Its calls count no steps, run on one thread and want nothing but the allocator. Those whose names end in `_on` fork: they
 //! are handed an `On` of `fork_join`, which says on which runtime, through which gate and on how many threads, and answer what the
 //! calls without the ending do. A share of a map costs no more than a pointer, and no change of one is seen in the other.

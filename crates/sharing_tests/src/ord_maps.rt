@@ -8,7 +8,7 @@ use std::process::Abort;
 
 type Tracking<'a> = OrdMap<Nothing<u64, Tracked<'a>>>;
 
-/// So many entries fill 64 blocks, with 48 in each, and stand in 63 nodes.
+/// So many entries fill 32 blocks, with 97 in each, and stand in 31 nodes.
 const ENTRIES: u64 = 3135;
 
 /// Sets each of the first even keys.
@@ -23,7 +23,7 @@ fn put_each<'a, R: Abort>(rt: &R, alloc: Global, map: &mut Tracking<'a>, shares:
 /// Puts an odd key and removes the even one before it, in each block.
 fn move_first<'a, R: Abort>(rt: &R, alloc: Global, map: &mut Tracking<'a>, shares: &'a Shares) {
     for half in 0..ENTRIES {
-        if half.is_multiple_of(49) {
+        if half.is_multiple_of(98) {
             let even = half.saturating_mul(2);
             let val = Tracked::new(half, shares);
             map.put(alloc, even.saturating_add(1), val)

@@ -10,5 +10,5 @@ invariant-loop-place g l = record {
   same : hits_of (take l.k (ranked l.fn.weights.entries)) ≡ l.hits.items ++ hits_of (take (l.k - l._place) (ranked l.rest.entries));
   low : AreLow l.rest.entries;
   few : length l.rest.entries ≤ length l.fn.weights.entries;
-  cost : (height : ℕ) → IsAtMostLevels 32 height (weight l.fn.weights.entries) → l.steps ≤ l.initial.steps + l._place * removal_cost height;
+  cost : (height : ℕ) → IsAtMostLevels 64 height (weight l.fn.weights.entries) → l.steps ≤ l.initial.steps + l._place * removal_cost height;
 }
