@@ -59,7 +59,8 @@ fn heaviest<C: Ledger>(
     }
 }
 
-// The first `k` documents by falling weight, one by one.
+// The first `k` documents by falling weight, one by one: each is removed from what is left of the map, which is changed in place but
+// for what others share.
 #[tactic(auto, using(crate::proofs::Ranks::low_dropped, crate::proofs::Ranks::top_more, crate::proofs::Ranks::top_done, crate::proofs::Ranks::top_end))]
 fn top_by_removals<C: Ledger>(
     alloc: Global,
@@ -78,7 +79,7 @@ fn top_by_removals<C: Ledger>(
         let Some(hit) = heaviest(alloc, &rest, steps)? else {
             return Ok(hits);
         };
-        rest = rest.del(alloc, &hit.doc, steps)?;
+        rest.del_mut(alloc, &hit.doc, steps)?;
         hits.push(hit)?;
     }
     Ok(hits)
