@@ -43,13 +43,13 @@ fn numbers_of(alloc: Global, intervals: &[Pair64]) -> Result<Vec<u128>, NoMemory
     Ok(numbers)
 }
 
-/// The numbers that stand for intervals, from the least on: they are compared and moved in less time than the intervals.
-/// O(n * log n) for n intervals.
+/// The numbers that stand for intervals, from the least on: they are compared and moved in less time than the intervals. The stable
+/// sort takes less time for them than the unstable one, but memory besides. O(n * log n) for n intervals.
 pub(crate) fn sorted_numbers(alloc: Global, intervals: &[Pair64]) -> Result<Vec<u128>, NoMemory>
     ensures { IfOk result (λ numbers. IsPermutation (map number_of intervals.now) numbers.items) }
 {
     let mut numbers = numbers_of(alloc, intervals)?;
-    numbers.sort_unstable();
+    numbers.sort()?;
     Ok(numbers)
 }
 
