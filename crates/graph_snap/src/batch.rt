@@ -4,7 +4,7 @@ ghost use Rattle.graph_snap.specs.Batches.{as_key, as_pairs, run};
 ghost use Rattle.graph_snap.specs.Edges.{AreSets, IsGraph, edges_of, pairs_of, reversed, with_edges};
 
 use crate::edge::Edge;
-use crate::neighbours::Neighbours;
+use crate::neighbours::{Neighbours, ends_of};
 use crate::packing::small_in_order;
 use aug_monoid::{NoMemory, Pair64};
 use fork_join::{Gate, On};
@@ -92,19 +92,24 @@ pub(crate) fn run_length(edges: &[(u64, u64)], from: u64) -> usize
     edges.len()
 }
 
-// The sets of out-neighbours that edges in order make.
+// The sets of out-neighbours that edges in order make. Their ends are listed once for all sets.
 fn grouped(alloc: Global, edges: &[(u64, u64)]) -> Result<Vec<(u64, Neighbours)>, NoMemory>
     requires { IsGraph edges.now }
     ensures sets { IfOk result (λ sets. AreSets sets.items) }
     ensures edges { IfOk result (λ sets. edges_of sets.items ≡ edges.now) }
 {
+    let ends = ends_of(alloc, edges)?;
     let mut sets = Vec::new(alloc);
     let mut rest = edges;
+    let mut rest_ends = ends.as_slice();
     while let Some(edge) = rest.first() {
-        let (run, later) = rest.split_at(run_length(rest, edge.0));
-        let set = Neighbours::of_run(alloc, run)?;
+        let count = run_length(rest, edge.0);
+        let (_, later) = rest.split_at(count);
+        let (run_ends, later_ends) = rest_ends.split_at(count);
+        let set = Neighbours::of_ends(alloc, run_ends)?;
         sets.push((edge.0, set))?;
         rest = later;
+        rest_ends = later_ends;
     }
     Ok(sets)
 }

@@ -44,8 +44,8 @@ impl Share for Neighbours {
     }
 }
 
-// The ends of edges, as keys without values.
-fn ends(alloc: Global, run: &[(u64, u64)]) -> Result<Vec<(u64, ())>, NoMemory>
+/// The ends of edges, as keys without values.
+pub(crate) fn ends_of(alloc: Global, run: &[(u64, u64)]) -> Result<Vec<(u64, ())>, NoMemory>
     ensures { IfOk result (λ keys. keys.items ≡ ends run.now) }
 {
     let keys = run.iter().map(|edge| (edge.1, ())).collect(alloc)?;
@@ -60,7 +60,7 @@ fn set_of_run(alloc: Global, run: &[(u64, u64)]) -> Result<CodedMap<Nothing<u64,
     if run.len() == 1 {
         return CodedMap::single(alloc, run[0].1, ());
     }
-    let keys = ends(alloc, run)?;
+    let keys = ends_of(alloc, run)?;
     CodedMap::of_slice(alloc, &keys)
 }
 
@@ -173,6 +173,15 @@ impl Neighbours {
         ensures { IfOk result (λ set. set ≡ ends run.now) }
     {
         let set = set_of_run(alloc, run)?;
+        Ok(Neighbours { set })
+    }
+
+    /// The set of ends in order.
+    pub(crate) fn of_ends(alloc: Global, ends: &[(u64, ())]) -> Result<Neighbours, NoMemory>
+        requires { IsIncreasing nat_cmp ends.now }
+        ensures { IfOk result (λ set. set ≡ ends.now) }
+    {
+        let set = CodedMap::of_slice(alloc, ends)?;
         Ok(Neighbours { set })
     }
 
